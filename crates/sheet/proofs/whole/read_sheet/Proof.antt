@@ -1,0 +1,42 @@
+use borrow.Author.Needs.{needs}
+use Rattle.sheet.proofs.whole.read_sheet.Statement.{statement}
+use Rattle.sheet.proofs.whole.read_sheet.Tie as tie
+use Rattle.sheet.proofs.whole.read_sheet.Reads as reads
+use Rattle.sheet.proofs.whole.read_sheet.Lts as lts
+use Rattle.sheet.proofs.headers.read_header.Reads as read-header-reads
+use Rattle.sheet.proofs.whole.read_body.Reads as read-body-reads
+
+-- src/whole.rt:49:11
+read-header-requires : tie.Need-read-header-requires
+read-header-requires c κs = search needs
+
+-- src/whole.rt:50:24
+enum-known-header : tie.Need-enum-known-header
+enum-known-header c = search needs
+
+-- src/whole.rt:50:35
+read-body-requires : tie.Need-read-body-requires
+read-body-requires c κs = search needs
+
+-- src/whole.rt:51:29
+enum-known-refusal : tie.Need-enum-known-refusal
+enum-known-refusal c = search needs
+
+-- src/whole.rt:46:1
+returns : tie.Need-returns
+returns c = ?
+
+-- src/whole.rt:46:1
+returns-2 : tie.Need-returns-2
+returns-2 c = ?
+
+pub read-sheet-spec : {M : Type 1} → statement M
+read-sheet-spec =
+    tie.close
+    (tie.spec
+    read-header-requires
+    enum-known-header
+    read-body-requires
+    enum-known-refusal
+    returns
+    returns-2)

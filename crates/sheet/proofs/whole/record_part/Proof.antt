@@ -1,0 +1,67 @@
+use borrow.Author.Needs.{needs}
+use Rattle.sheet.proofs.whole.record_part.Statement.{statement}
+use Rattle.sheet.proofs.whole.record_part.Tie as tie
+use Rattle.sheet.proofs.whole.record_part.Reads as reads
+use Rattle.sheet.proofs.whole.record_part.Lts as lts
+use Rattle.sheet.proofs.whole.part_at.Reads as part-at-reads
+use Rattle.sheet.proofs.whole.read_sheet.Reads as read-sheet-reads
+
+-- src/whole.rt:79:11
+read-sheet-requires : tie.Need-read-sheet-requires
+read-sheet-requires c κs = search needs
+
+-- src/whole.rt:80:29
+enum-known-header : tie.Need-enum-known-header
+enum-known-header c = search needs
+
+-- src/whole.rt:81:24
+cast-if1 : tie.Need-cast-if1
+cast-if1 c = search needs
+
+-- src/whole.rt:82:40
+cast-part-at : tie.Need-cast-part-at
+cast-part-at c = search needs
+
+-- src/whole.rt:82:17
+part-at-requires : tie.Need-part-at-requires
+part-at-requires c κs = search needs
+
+-- src/whole.rt:84:17
+slice-aggregate-result : tie.Need-slice-aggregate-result
+slice-aggregate-result c = search needs
+
+-- src/whole.rt:87:34
+enum-told : tie.Need-enum-told
+enum-told c = search needs
+
+-- src/whole.rt:87:34
+slice-aggregate-result-2 : tie.Need-slice-aggregate-result-2
+slice-aggregate-result-2 c = search needs
+
+-- src/whole.rt:76:1
+returns : tie.Need-returns
+returns c = ?
+
+-- src/whole.rt:76:1
+returns-2 : tie.Need-returns-2
+returns-2 c = ?
+
+-- src/whole.rt:76:1
+returns-3 : tie.Need-returns-3
+returns-3 c = ?
+
+pub record-part-spec : {M : Type 1} → statement M
+record-part-spec =
+    tie.close
+    (tie.spec
+    read-sheet-requires
+    enum-known-header
+    cast-if1
+    cast-part-at
+    part-at-requires
+    slice-aggregate-result
+    enum-told
+    slice-aggregate-result-2
+    returns
+    returns-2
+    returns-3)

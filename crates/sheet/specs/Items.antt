@@ -1,0 +1,85 @@
+-- Records and questions: one definition of an item, told its place.
+use Prim.Native.Nat.{ℕ, zero, suc}
+use mathlib.Core.Bool.{Bool, true, false}
+use mathlib.Core.List.{List, [], _∷_, _++_}
+use Rattle.sheet.specs.declared.fields.ByteRead.{ByteRead}
+use Rattle.sheet.specs.declared.items.EndRead.{EndRead}
+use Rattle.sheet.specs.declared.items.Item.{Item}
+use Rattle.sheet.specs.declared.items.ItemRead.{ItemRead}
+use Rattle.sheet.specs.declared.items.Place.{Place}
+use Rattle.sheet.specs.declared.items.QuestionRead.{QuestionRead}
+use Rattle.sheet.specs.declared.items.Statement.{Statement}
+use Rattle.sheet.specs.declared.numbers.Cursor.{Cursor}
+use Rattle.sheet.specs.declared.numbers.Variable.{Variable}
+use Rattle.sheet.specs.declared.refusals.Refusal.{Refusal}
+use Rattle.sheet.specs.Fields.{thenByte, thenWord, thenVariable, judged, byteField, variableField, wordIf, variableIf}
+use Rattle.sheet.specs.Refusals.{badItemMap, itemMapRefusal}
+use Rattle.sheet.specs.Tests.{pick, has}
+
+abbrev pub item : ℕ → Variable → Variable → Variable → ℕ → Variable → ℕ → Item
+item map i j partner f child a =
+    record
+      { map = map; subject = i; target = j; partner = partner; feature = record { 0 = f }; child = child; label = record { 0 = a } }
+
+-- a statement whose bit stands
+abbrev pub stated : Bool → Statement → List Statement
+stated stands x = pick stands (x ∷ []) []
+
+abbrev pub thenItem : {A : Type 0} → ItemRead → (Refusal → A) → (Item → Cursor → A) → A
+thenItem (ItemRead.Is x next) refused on = on x next
+thenItem (ItemRead.Refused r) refused on = refused r
+
+abbrev pub thenEnd : {A : Type 0} → EndRead → (Refusal → A) → (Cursor → A) → A
+thenEnd (EndRead.At end) refused next = next end
+thenEnd (EndRead.Refused r) refused next = refused r
+
+unfoldable pub mapField : Place → List ℕ → Cursor → ByteRead
+mapField place s c = judged (badItemMap place) (itemMapRefusal c) (byteField s c)
+
+-- the fields behind the subject, by rising bit: target, partner, feature and child, label
+unfoldable pub fieldsAt : List ℕ → ℕ → ℕ → Variable → Cursor → ItemRead
+fieldsAt s n map i c =
+    thenVariable (variableIf (has 1 map) s n c) ItemRead.Refused λ j c₁.
+    thenVariable (variableIf (has 2 map) s n c₁) ItemRead.Refused λ partner c₂.
+    thenWord (wordIf (has 4 map) s c₂) ItemRead.Refused λ f c₃.
+    thenVariable (variableIf (has 4 map) s n c₃) ItemRead.Refused λ child c₄.
+    thenWord (wordIf (has 8 map) s c₄) ItemRead.Refused λ a c₅.
+    ItemRead.Is (item map i j partner f child a) c₅
+
+-- the item at c over n variables: its map, its subject, and the fields whose bits stand
+unfoldable pub itemAt : Place → List ℕ → ℕ → Cursor → ItemRead
+itemAt place s n c =
+    thenByte (mapField place s c) ItemRead.Refused λ map c₁.
+    thenVariable (variableField s n c₁) ItemRead.Refused λ i c₂.
+    fieldsAt s n map i c₂
+
+-- what a record states, by rising bit
+unfoldable pub statementsOf : Item → List Statement
+statementsOf x =
+    stated (has 1 (x .map)) (Statement.Ordering (x .subject) (x .target))
+    ++ (stated (has 2 (x .map)) (Statement.Compatibility (x .subject) (x .partner))
+    ++ (stated (has 4 (x .map)) (Statement.Selection (x .subject) (x .feature) (x .child))
+    ++ stated (has 8 (x .map)) (Statement.Labelling (x .subject) (x .label))))
+
+-- what a question asks: the statement of its one bit
+unfoldable pub questionOf : Item → Statement
+questionOf x =
+    pick (has 1 (x .map)) (Statement.Ordering (x .subject) (x .target))
+    (pick (has 2 (x .map)) (Statement.Compatibility (x .subject) (x .partner))
+    (pick (has 4 (x .map)) (Statement.Selection (x .subject) (x .feature) (x .child))
+    (Statement.Labelling (x .subject) (x .label))))
+
+unfoldable pub questionAt : List ℕ → ℕ → Cursor → QuestionRead
+questionAt s n c = thenItem (itemAt Place.Question s n c) QuestionRead.Refused λ x next. QuestionRead.Asks (questionOf x) next
+
+-- where so many items from c on end
+unfoldable pub itemsEnd : ℕ → Place → List ℕ → ℕ → Cursor → EndRead
+itemsEnd zero place s n c = EndRead.At c
+itemsEnd (suc left) place s n c =
+    thenItem (itemAt place s n c) EndRead.Refused λ x next. itemsEnd left place s n next
+
+-- those items themselves
+unfoldable pub itemsOf : ℕ → Place → List ℕ → ℕ → Cursor → List Item
+itemsOf zero place s n c = []
+itemsOf (suc left) place s n c =
+    thenItem (itemAt place s n c) (λ r. []) λ x next. x ∷ itemsOf left place s n next

@@ -1,0 +1,30 @@
+// Sheets: the byte format, its reader, and the refusals of a malformed sheet by number and offset.
+mod numbers;
+mod refusals;
+mod fields;
+mod headers;
+mod items;
+mod whole;
+
+pub use fields::has_bit;
+pub use headers::Header;
+pub use headers::HeaderRead;
+pub use headers::read_header;
+pub use items::EndRead;
+pub use items::Item;
+pub use items::ItemRead;
+pub use items::Place;
+pub use items::QuestionRead;
+pub use items::Statement;
+pub use items::items_end;
+pub use items::read_question;
+pub use items::read_record;
+pub use numbers::Cursor;
+pub use numbers::Feature;
+pub use numbers::Label;
+pub use numbers::Variable;
+pub use refusals::Fault;
+pub use refusals::Refusal;
+pub use whole::SheetRead;
+pub use whole::read_sheet;
+pub use whole::record_part;
