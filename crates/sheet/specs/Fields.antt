@@ -42,8 +42,7 @@ thenVariable (VariableRead.Refused r) refused next = refused r
 
 -- a byte that was found is judged: refused where the test says so
 abbrev pub judged : (ℕ → Bool) → Refusal → ByteRead → ByteRead
-judged bad r (ByteRead.Is field) = pick (bad (field .value)) (ByteRead.Refused r) (ByteRead.Is field)
-judged bad r (ByteRead.Refused before) = ByteRead.Refused before
+judged bad r read = thenByte read ByteRead.Refused λ b next. pick (bad b) (ByteRead.Refused r) (byteIs b next)
 
 -- two bytes, the high one first
 unfoldable pub word : ℕ → ℕ → ℕ

@@ -1,29 +1,24 @@
 -- Records and questions: one definition of an item, told its place.
-use Prim.Native.Nat.{ℕ, zero, suc}
-use mathlib.Core.Bool.{Bool, true, false}
-use mathlib.Core.List.{List, [], _∷_, _++_}
+use Prim.Native.Nat.{ℕ, zero, suc, _+_}
+use mathlib.Core.List.{List, [], _∷_}
 use Rattle.sheet.specs.declared.fields.ByteRead.{ByteRead}
 use Rattle.sheet.specs.declared.items.EndRead.{EndRead}
 use Rattle.sheet.specs.declared.items.Item.{Item}
 use Rattle.sheet.specs.declared.items.ItemRead.{ItemRead}
 use Rattle.sheet.specs.declared.items.Place.{Place}
 use Rattle.sheet.specs.declared.items.QuestionRead.{QuestionRead}
-use Rattle.sheet.specs.declared.items.Statement.{Statement}
 use Rattle.sheet.specs.declared.numbers.Cursor.{Cursor}
 use Rattle.sheet.specs.declared.numbers.Variable.{Variable}
 use Rattle.sheet.specs.declared.refusals.Refusal.{Refusal}
 use Rattle.sheet.specs.Fields.{thenByte, thenWord, thenVariable, judged, byteField, variableField, wordIf, variableIf}
 use Rattle.sheet.specs.Refusals.{badItemMap, itemMapRefusal}
+use Rattle.sheet.specs.Statements.{questionOf}
 use Rattle.sheet.specs.Tests.{pick, has}
 
 abbrev pub item : ℕ → Variable → Variable → Variable → ℕ → Variable → ℕ → Item
 item map i j partner f child a =
     record
       { map = map; subject = i; target = j; partner = partner; feature = record { 0 = f }; child = child; label = record { 0 = a } }
-
--- a statement whose bit stands
-abbrev pub stated : Bool → Statement → List Statement
-stated stands x = pick stands (x ∷ []) []
 
 abbrev pub thenItem : {A : Type 0} → ItemRead → (Refusal → A) → (Item → Cursor → A) → A
 thenItem (ItemRead.Is x next) refused on = on x next
@@ -35,6 +30,19 @@ thenEnd (EndRead.Refused r) refused next = refused r
 
 unfoldable pub mapField : Place → List ℕ → Cursor → ByteRead
 mapField place s c = judged (badItemMap place) (itemMapRefusal c) (byteField s c)
+
+-- how many bytes an item of this map takes: map, subject, target, partner, feature and child, label
+unfoldable pub fieldsWidth : ℕ → ℕ
+fieldsWidth map =
+    pick (has 1 map) 1 0 + (pick (has 2 map) 1 0 + (pick (has 4 map) 2 0 + (pick (has 4 map) 1 0 + pick (has 8 map) 2 0)))
+
+unfoldable pub width : ℕ → ℕ
+width map = 2 + fieldsWidth map
+
+-- the longest item of a place: a record with all four statements, a question i[f]j
+abbrev pub most : Place → ℕ
+most Place.Record = 9
+most Place.Question = 5
 
 -- the fields behind the subject, by rising bit: target, partner, feature and child, label
 unfoldable pub fieldsAt : List ℕ → ℕ → ℕ → Variable → Cursor → ItemRead
@@ -52,22 +60,6 @@ itemAt place s n c =
     thenByte (mapField place s c) ItemRead.Refused λ map c₁.
     thenVariable (variableField s n c₁) ItemRead.Refused λ i c₂.
     fieldsAt s n map i c₂
-
--- what a record states, by rising bit
-unfoldable pub statementsOf : Item → List Statement
-statementsOf x =
-    stated (has 1 (x .map)) (Statement.Ordering (x .subject) (x .target))
-    ++ (stated (has 2 (x .map)) (Statement.Compatibility (x .subject) (x .partner))
-    ++ (stated (has 4 (x .map)) (Statement.Selection (x .subject) (x .feature) (x .child))
-    ++ stated (has 8 (x .map)) (Statement.Labelling (x .subject) (x .label))))
-
--- what a question asks: the statement of its one bit
-unfoldable pub questionOf : Item → Statement
-questionOf x =
-    pick (has 1 (x .map)) (Statement.Ordering (x .subject) (x .target))
-    (pick (has 2 (x .map)) (Statement.Compatibility (x .subject) (x .partner))
-    (pick (has 4 (x .map)) (Statement.Selection (x .subject) (x .feature) (x .child))
-    (Statement.Labelling (x .subject) (x .label))))
 
 unfoldable pub questionAt : List ℕ → ℕ → Cursor → QuestionRead
 questionAt s n c = thenItem (itemAt Place.Question s n c) QuestionRead.Refused λ x next. QuestionRead.Asks (questionOf x) next

@@ -11,8 +11,9 @@ use Rattle.sheet.specs.declared.numbers.Cursor.{Cursor}
 use Rattle.sheet.specs.declared.refusals.Refusal.{Refusal}
 use Rattle.sheet.specs.declared.whole.SheetRead.{SheetRead}
 use Rattle.sheet.specs.Headers.{thenHeader, headerOf}
-use Rattle.sheet.specs.Items.{thenItem, thenEnd, itemAt, itemsEnd, itemsOf, statementsOf, questionOf}
+use Rattle.sheet.specs.Items.{thenItem, thenEnd, itemAt, itemsEnd, itemsOf}
 use Rattle.sheet.specs.Refusals.{remain, trailingRefusal}
+use Rattle.sheet.specs.Statements.{statementsOf, questionOf}
 use Rattle.sheet.specs.Tests.{less, pick}
 
 abbrev pub thenSheet : {A : Type 0} → SheetRead → (Refusal → A) → (Header → Cursor → A) → A
@@ -29,6 +30,10 @@ bodyOf s h =
 -- every list of bytes is accepted, with its header and the offset of its questions, or refused
 unfoldable pub readSheet : List ℕ → SheetRead
 readSheet s = thenHeader (headerOf s) SheetRead.Refused λ h. bodyOf s h
+
+-- the longest sheet: a header of 6 bytes, 1,024 records and 1,024 questions of the longest
+abbrev pub longest : ℕ
+longest = 14342
 
 -- what an accepted sheet says: n variables, the statements of its records, what its questions ask
 pub record Sheet : Type 0 where

@@ -19,7 +19,8 @@ use crate::refusals::Refusal;
 
 ghost use mathlib.Core.Path.{_≡_};
 ghost use Rattle.sheet.specs.Refusals.{severalBits, badItemMap};
-ghost use Rattle.sheet.specs.Items.{mapField, fieldsAt, itemAt, questionOf, questionAt, itemsEnd};
+ghost use Rattle.sheet.specs.Items.{mapField, fieldsAt, itemAt, questionAt, itemsEnd};
+ghost use Rattle.sheet.specs.Statements.{questionOf};
 
 // What a record states and a question asks.
 pub enum Statement {

@@ -1,6 +1,6 @@
 use mathlib.Core.Path.{refl}
 use Rattle.sheet.proofs.Choice.{chosen, passed}
-use Rattle.sheet.specs.Items.{questionOf}
+use Rattle.sheet.specs.Statements.{questionOf}
 use borrow.Author.Needs.{needs}
 use Rattle.sheet.proofs.items.question_of.Statement.{statement}
 use Rattle.sheet.proofs.items.question_of.Tie as tie

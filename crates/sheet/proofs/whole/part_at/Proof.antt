@@ -1,3 +1,8 @@
+use mathlib.Core.Path.{refl, sym, _∙_}
+use native.Mathlib.Omega.{arith}
+use Rattle.sheet.specs.Sheets.{partAt}
+use Rattle.sheet.proofs.Chains.{told}
+use Rattle.sheet.proofs.Lawful.{item-spans}
 use borrow.Author.Needs.{needs}
 use Rattle.sheet.proofs.whole.part_at.Statement.{statement}
 use Rattle.sheet.proofs.whole.part_at.Tie as tie
@@ -24,7 +29,8 @@ slice-aggregate-result c = search needs
 
 -- src/whole.rt:62:32
 returns : tie.Need-returns
-returns c = ?
+unfolding partAt
+returns c = rw (← c .before .before .before .items-end .ensures, c .before .enum-told .given .1) refl
 
 -- src/whole.rt:64:11
 read-record-requires : tie.Need-read-record-requires
@@ -36,15 +42,15 @@ enum-known-end c = search needs
 
 -- src/whole.rt:68:13
 sub-result : tie.Need-sub-result
-sub-result c = ?
+sub-result c = let h = told (item-spans _ _ _ _) (sym (c .before .before .before .read-record .ensures) ∙ c .before .end .given .1) in omega arith
 
 -- src/whole.rt:68:13
 part-result-start : tie.Need-part-result-start
-part-result-start c = ?
+part-result-start c = let h = told (item-spans _ _ _ _) (sym (c .before .before .before .read-record .ensures) ∙ c .before .end .given .1) in omega arith
 
 -- src/whole.rt:68:13
 part-result-end : tie.Need-part-result-end
-part-result-end c = ?
+part-result-end c = let h = told (item-spans _ _ _ _) (sym (c .before .before .before .read-record .ensures) ∙ c .before .end .given .1) in omega arith
 
 -- src/whole.rt:70:33
 enum-told-2 : tie.Need-enum-told-2
@@ -56,11 +62,13 @@ slice-aggregate-result-2 c = search needs
 
 -- src/whole.rt:56:1
 returns-2 : tie.Need-returns-2
-returns-2 c = ?
+unfolding partAt
+returns-2 c = rw (← c .before .before .before .before .before .before .before .before .items-end .ensures, c .before .before .before .before .before .before .start .given .1, ← c .before .before .before .before .read-record .ensures, c .before .before .end .given .1) refl
 
 -- src/whole.rt:56:1
 returns-3 : tie.Need-returns-3
-returns-3 c = ?
+unfolding partAt
+returns-3 c = rw (← c .before .before .before .before .before .before .before .items-end .ensures, c .before .before .before .before .before .start .given .1, ← c .before .before .before .read-record .ensures, c .before .enum-told2 .given .1) refl
 
 pub part-at-spec : {M : Type 1} → statement M
 part-at-spec =

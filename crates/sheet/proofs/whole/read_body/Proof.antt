@@ -1,3 +1,7 @@
+use mathlib.Core.Path.{refl}
+use Rattle.sheet.proofs.Choice.{chosen, passed, is-less, not-less}
+use Rattle.sheet.specs.Sheets.{bodyOf}
+use Rattle.sheet.specs.Refusals.{remain}
 use borrow.Author.Needs.{needs}
 use Rattle.sheet.proofs.whole.read_body.Statement.{statement}
 use Rattle.sheet.proofs.whole.read_body.Tie as tie
@@ -19,7 +23,8 @@ enum-known-refusal c = search needs
 
 -- src/whole.rt:30:38
 returns : tie.Need-returns
-returns c = ?
+unfolding bodyOf
+returns c = rw (← c .before .before .before .items-end .ensures, c .before .refusal .given .1) refl
 
 -- src/whole.rt:32:21
 items-end-requires-2 : tie.Need-items-end-requires-2
@@ -35,15 +40,18 @@ enum-known-refusal-2 c = search needs
 
 -- src/whole.rt:34:38
 returns-2 : tie.Need-returns-2
-returns-2 c = ?
+unfolding bodyOf
+returns-2 c = rw (← c .before .before .before .before .before .before .before .items-end .ensures, c .before .before .before .before .before .end .given .1, ← c .before .before .before .items-end2 .ensures, c .before .refusal2 .given .1) refl
 
 -- src/whole.rt:37:9
 returns-3 : tie.Need-returns-3
-returns-3 c = ?
+unfolding bodyOf remain
+returns-3 c = rw (← c .before .before .before .before .before .before .before .before .before .items-end .ensures, c .before .before .before .before .before .before .before .end .given .1, ← c .before .before .before .before .before .items-end2 .ensures, c .before .before .before .end2 .given .1) (chosen _ _ _ (is-less _ _ (c .if1 .taken)) refl)
 
 -- src/whole.rt:24:1
 returns-4 : tie.Need-returns-4
-returns-4 c = ?
+unfolding bodyOf remain
+returns-4 c = rw (← c .before .before .before .before .before .before .before .before .before .items-end .ensures, c .before .before .before .before .before .before .before .end .given .1, ← c .before .before .before .before .before .items-end2 .ensures, c .before .before .before .end2 .given .1) (passed _ _ _ (not-less _ _ (c .if1 .left)) refl)
 
 pub read-body-spec : {M : Type 1} → statement M
 read-body-spec =

@@ -1,3 +1,5 @@
+use mathlib.Core.Path.{refl}
+use Rattle.sheet.specs.Sheets.{readSheet}
 use borrow.Author.Needs.{needs}
 use Rattle.sheet.proofs.whole.read_sheet.Statement.{statement}
 use Rattle.sheet.proofs.whole.read_sheet.Tie as tie
@@ -24,11 +26,13 @@ enum-known-refusal c = search needs
 
 -- src/whole.rt:46:1
 returns : tie.Need-returns
-returns c = ?
+unfolding readSheet
+returns c = rw (← c .before .before .before .before .read-header .ensures, c .before .before .header .given .1) (c .read-body .ensures)
 
 -- src/whole.rt:46:1
 returns-2 : tie.Need-returns-2
-returns-2 c = ?
+unfolding readSheet
+returns-2 c = rw (← c .before .before .before .read-header .ensures, c .before .refusal .given .1) refl
 
 pub read-sheet-spec : {M : Type 1} → statement M
 read-sheet-spec =

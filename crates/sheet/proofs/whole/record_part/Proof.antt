@@ -1,3 +1,6 @@
+use mathlib.Core.Path.{refl}
+use Rattle.sheet.proofs.Choice.{chosen, passed, is-less, not-less}
+use Rattle.sheet.specs.Sheets.{recordBytes}
 use borrow.Author.Needs.{needs}
 use Rattle.sheet.proofs.whole.record_part.Statement.{statement}
 use Rattle.sheet.proofs.whole.record_part.Tie as tie
@@ -40,15 +43,18 @@ slice-aggregate-result-2 c = search needs
 
 -- src/whole.rt:76:1
 returns : tie.Need-returns
-returns c = ?
+unfolding recordBytes
+returns c = rw (← c .before .before .before .before .before .before .read-sheet .ensures, c .before .before .before .before .header .given .1) (chosen _ _ _ (is-less _ _ (c .before .if1 .taken)) (c .part-at .ensures))
 
 -- src/whole.rt:76:1
 returns-2 : tie.Need-returns-2
-returns-2 c = ?
+unfolding recordBytes
+returns-2 c = rw (← c .before .before .before .before .before .before .read-sheet .ensures, c .before .before .before .before .header .given .1) (passed _ _ _ (not-less _ _ (c .before .if1 .left)) refl)
 
 -- src/whole.rt:76:1
 returns-3 : tie.Need-returns-3
-returns-3 c = ?
+unfolding recordBytes
+returns-3 c = rw (← c .before .before .before .read-sheet .ensures, c .before .enum-told .given .1) refl
 
 pub record-part-spec : {M : Type 1} → statement M
 record-part-spec =
