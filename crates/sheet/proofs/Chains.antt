@@ -26,6 +26,10 @@ module _ {A : Type 0} {P : A → Type 0} where
   pub told : {answer x : A} → Of P answer → answer ≡ x → P x
   told h e = subst P e (h .holds)
 
+  -- with the equation at hand
+  pub known : {answer : A} → Of P answer → Of (λ x. (answer ≡ x) × P x) answer
+  known h = record { holds = (refl, h .holds) }
+
   pub either : (b : Bool) (x y : A) → (b ≡ true → Of P x) → (b ≡ false → Of P y) → Of P (pick b x y)
   unfolding pick
   either true x y p q = p refl

@@ -1,8 +1,9 @@
 -- Laws of the tests and of the choice by a test.
 use Prim.Native.Nat.{ℕ, _≤_, _<_}
-use mathlib.Core.Bool.{Bool, true, false, not, _||_}
-use mathlib.Core.Path.{_≡_, refl, _∙_, sym}
+use mathlib.Core.Bool.{Bool, true, false, _||_, true≢false}
+use mathlib.Core.Path.{_≡_, refl}
 use borrow.Author.Tests.{lt-ltb, le-ltb, eq-eqb, ne-eqb, ltb-true, ltb-false, eqb-true, eqb-false}
+use native.Mathlib.Omega.{arith}
 use Rattle.sheet.specs.Tests.{less, same, pick}
 
 -- a test from the fact
@@ -47,3 +48,22 @@ chosen b x y e p = rw e p
 pub passed : {A : Type 0} {r : A} (b : Bool) (x y : A) → b ≡ false → r ≡ y → r ≡ pick b x y
 unfolding pick
 passed b x y e p = rw e p
+
+-- a disjunction that fails fails on both sides, and one that holds holds on one
+pub or-left : (a b : Bool) → a || b ≡ false → a ≡ false
+or-left true b e = e
+or-left false b e = refl
+
+pub or-right : (a b : Bool) → a || b ≡ false → b ≡ false
+or-right true b e = absurd (true≢false e)
+or-right false b e = e
+
+pub or-cases : {C : Type 0} (a b : Bool) → a || b ≡ true → (a ≡ true → C) → (b ≡ true → C) → C
+or-cases true b e p q = p refl
+or-cases false b e p q = q e
+
+-- a choice of no bytes or k is at most k
+pub pick-most : (b : Bool) (k : ℕ) → pick b k 0 ≤ k
+unfolding pick
+pick-most true k = omega arith
+pick-most false k = omega arith

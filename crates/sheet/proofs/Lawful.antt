@@ -1,8 +1,8 @@
 -- What an item that was read is: its map lawful, its end where its map says, its variables below n.
 use Prim.Native.Nat.{ℕ, _+_, _≤_, _<_}
-use mathlib.Core.Bool.{Bool, true, false, not, _||_, false≢true}
-use mathlib.Core.List.{List, [], _∷_}
-use mathlib.Core.Path.{_≡_, refl, sym, ap, _∙_}
+use mathlib.Core.Bool.{true, false}
+use mathlib.Core.List.{List}
+use mathlib.Core.Path.{_≡_}
 use borrow.Author.Tests.{not-false}
 use lib.ListN.{length}
 use native.Mathlib.Omega.{arith}
@@ -11,19 +11,11 @@ use Rattle.sheet.specs.declared.items.ItemRead.{ItemRead}
 use Rattle.sheet.specs.declared.items.Place.{Place}
 use Rattle.sheet.specs.declared.numbers.Cursor.{Cursor}
 use Rattle.sheet.specs.Items.{mapField, fieldsAt, itemAt, fieldsWidth, width, most}
-use Rattle.sheet.specs.Refusals.{badItemMap, severalBits, tooManyBits}
+use Rattle.sheet.specs.Refusals.{badItemMap, severalBits}
 use Rattle.sheet.specs.Tests.{less, same, pick, has}
 use Rattle.sheet.proofs.Chains.{Of, after-byte, after-variable, as-item}
-use Rattle.sheet.proofs.Choice.{same-true}
-use Rattle.sheet.proofs.Extents.{Spans, Fills, FieldsSpan, judged-spans, variable-spans, fields-span}
-
-or-right : (a b : Bool) → a || b ≡ false → b ≡ false
-or-right true b e = absurd (false≢true (sym e))
-or-right false b e = e
-
-or-cases : {C : Type 0} (a b : Bool) → a || b ≡ true → (a ≡ true → C) → (b ≡ true → C) → C
-or-cases true b e p q = p refl
-or-cases false b e p q = q e
+use Rattle.sheet.proofs.Choice.{same-true, or-right, or-cases, pick-most}
+use Rattle.sheet.proofs.Extents.{judged-spans, variable-spans, fields-span}
 
 -- a lawful question map is one bit
 pub one-bit : {C : Type 0} (map : ℕ) → badItemMap Place.Question map ≡ false
@@ -33,11 +25,6 @@ one-bit map e p₁ p₂ p₄ p₈ =
     or-cases (same map 1) _ (not-false _ (or-right (less 15 map) _ (or-right (same map 0) _ e))) (λ h. p₁ (same-true _ _ h)) λ e₂.
     or-cases (same map 2) _ e₂ (λ h. p₂ (same-true _ _ h)) λ e₄.
     or-cases (same map 4) _ e₄ (λ h. p₄ (same-true _ _ h)) λ h. p₈ (same-true _ _ h)
-
-pick-most : (b : Bool) (k : ℕ) → pick b k 0 ≤ k
-unfolding pick
-pick-most true k = omega arith
-pick-most false k = omega arith
 
 -- no lawful map makes an item longer than the longest
 width-record : (map : ℕ) → width map ≤ 9

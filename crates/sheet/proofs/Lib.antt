@@ -1,6 +1,9 @@
--- Laws that belong to no one function.
+-- Laws that belong to no one function, from tests up to the whole sheet.
 pub mod Choice
 pub mod Chains
 pub mod Extents
-pub mod Runs
 pub mod Lawful
+pub mod Runs
+pub mod Heads
+pub mod Accepted
+pub mod Named
