@@ -44,12 +44,14 @@ sheet-spans s =
     either _ _ _ (λ e. record { holds = omega arith })
     λ e. let none-left = less-false _ _ e in
     let fits = r′ .1 .inside (r .1 .inside (p .1 .inside)) in
-    record { holds = record
-      { heads = p .1
-      ; header-is = p .0
-      ; records-end = r .0
-      ; end = end
-      ; questions-end = r′ .0
-      ; whole = omega arith
-      ; short = omega arith
-      } }
+    record {
+      holds = record {
+        heads = p .1;
+        header-is = p .0;
+        records-end = r .0;
+        end = end;
+        questions-end = r′ .0;
+        whole = omega arith;
+        short = omega arith;
+      };
+    }

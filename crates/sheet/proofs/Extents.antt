@@ -44,7 +44,7 @@ abbrev pub any : ℕ → Type 0
 any value = Unit {0}
 
 pub join : {s : List ℕ} {v w : ℕ} {c between next : Cursor} → Spans s v c between → Spans s w between next
-  → Spans s (v + w) c next
+    → Spans s (v + w) c next
 join p q = record { reaches = omega arith; inside = λ h. q .inside (p .inside h) }
 
 module _ (s : List ℕ) (c : Cursor) where
@@ -64,7 +64,7 @@ module _ (s : List ℕ) (c : Cursor) where
       (λ e. let h = less-false _ _ e in record { holds = (record { reaches = refl; inside = λ b. h }, tt) })
 
   pub judged-spans : (bad : ℕ → Bool) (r : Refusal) → r .at ≤ c .at + 1
-    → Of (ByteSpans s 1 c (λ v. bad v ≡ false)) (judged bad r (byteField s c))
+      → Of (ByteSpans s 1 c (λ v. bad v ≡ false)) (judged bad r (byteField s c))
   judged-spans bad r near =
       after-byte byte-spans (λ q h. record { holds = h }) λ v next h.
       either _ _ _ (λ e. record { holds = near }) (λ e. record { holds = (h .0, e, h .2) })
@@ -82,7 +82,7 @@ module _ (s : List ℕ) (c : Cursor) where
   word-if-spans false = record { holds = (nothing-spans, tt) }
 
   pub variable-if-spans : (n : ℕ) (stands : Bool)
-    → Of (VariableSpans s (pick stands 1 0) c (λ i. stands ≡ true → i < n)) (variableIf stands s n c)
+      → Of (VariableSpans s (pick stands 1 0) c (λ i. stands ≡ true → i < n)) (variableIf stands s n c)
   unfolding variableIf pick
   variable-if-spans n true = weaken (variableField s n c) (variable-spans n .holds)
     where
@@ -112,11 +112,13 @@ fields-span s n map i c =
     after-word (word-if-spans s c₂ (has 4 map)) (λ q h. record { holds = omega arith }) λ v₃ c₃ p₃.
     after-variable (variable-if-spans s c₃ n (has 4 map)) (λ q h. record { holds = omega arith }) λ v₄ c₄ p₄.
     after-word (word-if-spans s c₄ (has 8 map)) (λ q h. record { holds = omega arith }) λ v₅ c₅ p₅.
-    record { holds = record
-      { map-is = refl
-      ; subject-is = refl
-      ; target = p₁ .1
-      ; partner = p₂ .1
-      ; child = p₄ .1
-      ; span = join (p₁ .0) (join (p₂ .0) (join (p₃ .0) (join (p₄ .0) (p₅ .0))))
-      } }
+    record {
+      holds = record {
+        map-is = refl;
+        subject-is = refl;
+        target = p₁ .1;
+        partner = p₂ .1;
+        child = p₄ .1;
+        span = join (p₁ .0) (join (p₂ .0) (join (p₃ .0) (join (p₄ .0) (p₅ .0))));
+      };
+    }

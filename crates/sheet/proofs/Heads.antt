@@ -35,7 +35,7 @@ count-spans s c =
     either _ _ _ (λ e. record { holds = omega arith }) (λ e. record { holds = (h .0, less-false _ _ e) })
 
 count-if-spans : (s : List ℕ) (c : Cursor) (stands : Bool)
-  → Of (WordSpans s (pick stands 2 0) c (λ v. v ≤ 1024)) (countIf stands s c)
+    → Of (WordSpans s (pick stands 2 0) c (λ v. v ≤ 1024)) (countIf stands s c)
 unfolding countIf pick
 count-if-spans s c true = count-spans s c
 count-if-spans s c false = record { holds = (nothing-spans s c, omega arith) }
@@ -56,11 +56,13 @@ header-spans s =
     after-word (count-if-spans s c₃ (has 4 map))
     (λ q h. record { holds = omega (arith, pick-most (has 2 map) 2, pick-most (has 4 map) 2) }) λ k c₄ p₄.
     let n-is = counted n (p₂ .1) in
-    record { holds = record
-      { some = n-is .0
-      ; few = n-is .1
-      ; records = p₃ .1
-      ; questions = p₄ .1
-      ; near = omega (arith, pick-most (has 2 map) 2, pick-most (has 4 map) 2)
-      ; inside = p₄ .0 .inside (p₃ .0 .inside (p₂ .2))
-      } }
+    record {
+      holds = record {
+        some = n-is .0;
+        few = n-is .1;
+        records = p₃ .1;
+        questions = p₄ .1;
+        near = omega (arith, pick-most (has 2 map) 2, pick-most (has 4 map) 2);
+        inside = p₄ .0 .inside (p₃ .0 .inside (p₂ .2));
+      };
+    }

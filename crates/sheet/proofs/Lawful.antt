@@ -19,7 +19,7 @@ use Rattle.sheet.proofs.Extents.{judged-spans, variable-spans, fields-s
 
 -- a lawful question map is one bit
 pub one-bit : {C : Type 0} (map : ℕ) → badItemMap Place.Question map ≡ false
-  → (map ≡ 1 → C) → (map ≡ 2 → C) → (map ≡ 4 → C) → (map ≡ 8 → C) → C
+    → (map ≡ 1 → C) → (map ≡ 2 → C) → (map ≡ 4 → C) → (map ≡ 8 → C) → C
 unfolding badItemMap severalBits
 one-bit map e p₁ p₂ p₄ p₈ =
     or-cases (same map 1) _ (not-false _ (or-right (less 15 map) _ (or-right (same map 0) _ e))) (λ h. p₁ (same-true _ _ h)) λ e₂.
@@ -66,12 +66,12 @@ item-spans place s n c =
     after-byte (judged-spans s c (badItemMap place) _ (omega arith)) (λ q h. record { holds = omega (arith, most-least place) }) λ map c₁ m.
     after-variable (variable-spans s c₁ n) (λ q h. record { holds = omega (arith, most-least place) }) λ i c₂ v.
     as-item (fields-span s n map i c₂) (λ q h. omega (arith, width-most place map (m .1))) λ x next f.
-    record
-      { lawful = rw (f .map-is) (m .1)
-      ; reaches = rw (f .map-is) (omega arith)
-      ; inside = f .span .inside (v .0 .inside (m .2))
-      ; subject = rw (f .subject-is) (v .1)
-      ; target = rw (f .map-is) (f .target)
-      ; partner = rw (f .map-is) (f .partner)
-      ; child = rw (f .map-is) (f .child)
-      }
+    record {
+      lawful = rw (f .map-is) (m .1);
+      reaches = rw (f .map-is) (omega arith);
+      inside = f .span .inside (v .0 .inside (m .2));
+      subject = rw (f .subject-is) (v .1);
+      target = rw (f .map-is) (f .target);
+      partner = rw (f .map-is) (f .partner);
+      child = rw (f .map-is) (f .child);
+    }

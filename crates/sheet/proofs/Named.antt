@@ -43,7 +43,7 @@ module _ {place : Place} {s : List ℕ} {n : ℕ} {c next : Cursor} (x : Item) w
 
 -- a question's item states just what it asks, and its map is the bit of that kind
 pub question-alone : {s : List ℕ} {n : ℕ} {c next : Cursor} (x : Item) → Reads Place.Question s n c x next
-  → (statementsOf x ≡ questionOf x ∷ []) × (x .map ≡ bitOf (questionOf x))
+    → (statementsOf x ≡ questionOf x ∷ []) × (x .map ≡ bitOf (questionOf x))
 unfolding statementsOf questionOf pick has same
 question-alone x r = one-bit (x .map) (r .lawful) (λ m. rw m (refl, refl)) (λ m. rw m (refl, refl)) (λ m. rw m (refl, refl)) (λ m. rw m (refl, refl))
 
@@ -73,8 +73,8 @@ sheet-named s = go (readSheet s)
   where
     go : (r : SheetRead) → Named (thenSheet r (λ q. sheet 0 [] []) (sheetAt s))
     go (SheetRead.Accepted h asked) =
-        record
-          { stated = records-name s (h .variables) (h .records) (h .first) .holds
-          ; asked = questions-name s (h .variables) (h .questions) asked .holds
-          }
+        record {
+          stated = records-name s (h .variables) (h .records) (h .first) .holds;
+          asked = questions-name s (h .variables) (h .questions) asked .holds;
+        }
     go (SheetRead.Refused r) = record { stated = tt; asked = tt }

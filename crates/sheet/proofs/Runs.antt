@@ -23,13 +23,13 @@ module _ (place : Place) (s : List ℕ) (n : ℕ) (c : Cursor) where
   run-over (suc left) h = absurd (omega arith)
 
   pub run-on : (left : ℕ) (x : Item) (next : Cursor) → 0 < left → itemAt place s n c ≡ ItemRead.Is x next
-    → itemsEnd left place s n c ≡ itemsEnd (left - 1) place s n next
+      → itemsEnd left place s n c ≡ itemsEnd (left - 1) place s n next
   unfolding itemsEnd
   run-on zero x next h e = absurd (omega arith)
   run-on (suc left) x next h e = rw (e, sub-one) refl
 
   pub run-refused : (left : ℕ) (r : Refusal) → 0 < left → itemAt place s n c ≡ ItemRead.Refused r
-    → itemsEnd left place s n c ≡ EndRead.Refused r
+      → itemsEnd left place s n c ≡ EndRead.Refused r
   unfolding itemsEnd
   run-refused zero r h e = absurd (omega arith)
   run-refused (suc left) r h e = rw e refl
@@ -51,21 +51,21 @@ run-spans place s n (suc k) c =
     after-item (item-spans place s n c) (λ q h. record { holds = omega (arith, suc-mul k (most place)) }) λ x next r.
     let w = width-most place (x .map) (r .lawful) in
     as-end (run-spans place s n k next) (λ q h. omega (arith, suc-mul k (most place))) λ end h.
-    record
-      { ahead = omega arith
-      ; near = omega (arith, suc-mul k (most place))
-      ; inside = λ b. h .inside (r .inside)
-      }
+    record {
+      ahead = omega arith;
+      near = omega (arith, suc-mul k (most place));
+      inside = λ b. h .inside (r .inside);
+    }
 
 never : {r : Refusal} {end : Cursor} → EndRead.Refused r ≡ EndRead.At end → ⊥
 never e = let z : _≡_ {A = ℕ} 0 1 = cc in omega arith
 
 -- a run that ends at a cursor refuses none of its items: the first is read, and the rest ends there too
 pub run-next : {C : Type 0} (place : Place) (s : List ℕ) (n : ℕ) (c end : Cursor) (left : ℕ) → 0 < left
-  → itemsEnd left place s n c ≡ EndRead.At end
-  → ((x : Item) (next : Cursor) → itemAt place s n c ≡ ItemRead.Is x next
-  → itemsEnd (left - 1) place s n next ≡ EndRead.At end → itemsOf left place s n c ≡ x ∷ itemsOf (left - 1) place s n next → C)
-  → C
+    → itemsEnd left place s n c ≡ EndRead.At end
+    → ((x : Item) (next : Cursor) → itemAt place s n c ≡ ItemRead.Is x next
+    → itemsEnd (left - 1) place s n next ≡ EndRead.At end → itemsOf left place s n c ≡ x ∷ itemsOf (left - 1) place s n next → C)
+    → C
 unfolding itemsOf
 run-next place s n c end zero h e go = absurd (omega arith)
 run-next {C} place s n c end (suc left) h e go = first (itemAt place s n c) refl
@@ -76,7 +76,7 @@ run-next {C} place s n c end (suc left) h e go = first (itemAt place s n c) refl
 
 -- it has as many items as it was asked for
 pub run-count : (place : Place) (s : List ℕ) (n k : ℕ) (c end : Cursor) → itemsEnd k place s n c ≡ EndRead.At end
-  → length (itemsOf k place s n c) ≡ k
+    → length (itemsOf k place s n c) ≡ k
 unfolding itemsOf
 run-count place s n zero c end e = refl
 run-count place s n (suc k) c end e =

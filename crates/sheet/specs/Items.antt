@@ -18,7 +18,7 @@ use Rattle.sheet.specs.Tests.{pick, has}
 abbrev pub item : ℕ → Variable → Variable → Variable → ℕ → Variable → ℕ → Item
 item map i j partner f child a =
     record
-      { map = map; subject = i; target = j; partner = partner; feature = record { 0 = f }; child = child; label = record { 0 = a } }
+    { map = map; subject = i; target = j; partner = partner; feature = record { 0 = f }; child = child; label = record { 0 = a } }
 
 abbrev pub thenItem : {A : Type 0} → ItemRead → (Refusal → A) → (Item → Cursor → A) → A
 thenItem (ItemRead.Is x next) refused on = on x next

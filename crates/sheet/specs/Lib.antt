@@ -6,3 +6,4 @@ pub mod Headers
 pub mod Items
 pub mod Statements
 pub mod Sheets
+pub mod Parts

@@ -31,7 +31,7 @@ ends s at width = less (length s) (at + width)
 abbrev pub cut : List ℕ → Refusal
 cut s = refusal Fault.Cut (length s)
 
--- 2, header map: bit 0 missing, or a bit that the header does not define; told at 0
+-- 2, header map: bit 0 missing, or a bit that the header does not define (3 to 7); told at 0
 unfoldable pub badHeaderMap : ℕ → Bool
 badHeaderMap map = not (has 1 map) || less 7 map
 
@@ -52,7 +52,11 @@ badCount count = less 1024 count
 abbrev pub countRefusal : Cursor → Refusal
 countRefusal field = refusal Fault.Count (field .at)
 
--- 5, record or question map: 0, any of bits 4 to 7, or in a question more than one bit; told at the map
+-- 5, record or question map: 0, a bit that the place does not define (4 to 7), or in a question more than one bit; told at the map
+abbrev pub definedBits : Place → ℕ
+definedBits Place.Record = 15
+definedBits Place.Question = 15
+
 unfoldable pub severalBits : ℕ → Bool
 severalBits map = not (same map 1 || (same map 2 || (same map 4 || same map 8)))
 
@@ -61,7 +65,7 @@ tooManyBits Place.Record map = false
 tooManyBits Place.Question map = severalBits map
 
 unfoldable pub badItemMap : Place → ℕ → Bool
-badItemMap place map = same map 0 || (less 15 map || tooManyBits place map)
+badItemMap place map = same map 0 || (less (definedBits place) map || tooManyBits place map)
 
 abbrev pub itemMapRefusal : Cursor → Refusal
 itemMapRefusal field = refusal Fault.ItemMap (field .at)

@@ -1,9 +1,7 @@
--- The whole sheet, what it states and asks, and a record's own bytes.
-use Prim.Native.Nat.{ℕ, zero, suc, _-_}
+-- The whole sheet, and what it states and asks.
+use Prim.Native.Nat.{ℕ}
 use mathlib.Core.List.{List, [], _∷_, _++_, map}
-use lib.ListN.{take, drop}
 use Rattle.sheet.specs.declared.headers.Header.{Header}
-use Rattle.sheet.specs.declared.items.EndRead.{EndRead}
 use Rattle.sheet.specs.declared.items.Item.{Item}
 use Rattle.sheet.specs.declared.items.Place.{Place}
 use Rattle.sheet.specs.declared.items.Statement.{Statement}
@@ -11,14 +9,23 @@ use Rattle.sheet.specs.declared.numbers.Cursor.{Cursor}
 use Rattle.sheet.specs.declared.refusals.Refusal.{Refusal}
 use Rattle.sheet.specs.declared.whole.SheetRead.{SheetRead}
 use Rattle.sheet.specs.Headers.{thenHeader, headerOf}
-use Rattle.sheet.specs.Items.{thenItem, thenEnd, itemAt, itemsEnd, itemsOf}
-use Rattle.sheet.specs.Refusals.{remain, trailingRefusal}
+use Rattle.sheet.specs.Items.{thenEnd, itemsEnd, itemsOf}
+use Rattle.sheet.specs.Refusals.{numberOf, remain, trailingRefusal}
 use Rattle.sheet.specs.Statements.{statementsOf, questionOf}
-use Rattle.sheet.specs.Tests.{less, pick}
+use Rattle.sheet.specs.Tests.{pick}
 
 abbrev pub thenSheet : {A : Type 0} → SheetRead → (Refusal → A) → (Header → Cursor → A) → A
 thenSheet (SheetRead.Accepted h asked) refused next = next h asked
 thenSheet (SheetRead.Refused r) refused next = refused r
+
+-- the number and the offset that are told of an answer: 0 at 0 where the sheet is accepted
+abbrev pub numberTold : SheetRead → ℕ
+numberTold (SheetRead.Accepted h asked) = 0
+numberTold (SheetRead.Refused r) = numberOf (r .fault)
+
+abbrev pub offsetTold : SheetRead → ℕ
+offsetTold (SheetRead.Accepted h asked) = 0
+offsetTold (SheetRead.Refused r) = r .at
 
 -- behind the header: as many records and as many questions as it says, then nothing
 unfoldable pub bodyOf : List ℕ → Header → SheetRead
@@ -57,15 +64,3 @@ sheetAt s h asked =
 -- of a refused list of bytes: no variable, no statement, no question
 unfoldable pub sheetOf : List ℕ → Sheet
 sheetOf s = thenSheet (readSheet s) (λ r. sheet 0 [] []) (sheetAt s)
-
--- the bytes of the record behind so many records
-unfoldable pub partAt : List ℕ → Header → ℕ → List ℕ
-partAt s h which =
-    thenEnd (itemsEnd which Place.Record s (h .variables) (h .first)) (λ r. []) λ start.
-    thenItem (itemAt Place.Record s (h .variables) start) (λ r. []) λ x end.
-    take (end .at - start .at) (drop (start .at) s)
-
--- a record's own bytes: none for a refused sheet, or a number not below the record count
-unfoldable pub recordBytes : List ℕ → ℕ → List ℕ
-recordBytes s which =
-    thenSheet (readSheet s) (λ r. []) λ h asked. pick (less which (h .records)) (partAt s h which) []

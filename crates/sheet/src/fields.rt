@@ -3,7 +3,6 @@ use crate::numbers::Cursor;
 use crate::numbers::Variable;
 use crate::refusals::Fault;
 use crate::refusals::Refusal;
-
 ghost use mathlib.Core.Path.{_≡_};
 ghost use Rattle.sheet.specs.Fields.{word, byteField, wordField, variableField, wordIf, variableIf};
 ghost use Rattle.sheet.specs.Refusals.{cut};

@@ -9,12 +9,12 @@ use crate::fields::read_word;
 use crate::numbers::Cursor;
 use crate::refusals::Fault;
 use crate::refusals::Refusal;
-
 ghost use mathlib.Core.Path.{_≡_};
 ghost use Rattle.sheet.specs.Refusals.{badHeaderMap, badVariableCount};
 ghost use Rattle.sheet.specs.Headers.{headerMap, variableCount, countField, countIf, headerOf, tableSize};
 
 pub const MOST_VARIABLES: u8 = 128;
+
 pub const MOST_ITEMS: u16 = 1024;
 
 pub struct Header {
@@ -69,11 +69,7 @@ impl Header {
 fn is_bad_header_map(map: u8) -> bool
     ensures { λ r. ⌜ r ≡ badHeaderMap map ⌝ }
 {
-    if has_bit(1, map) {
-        7 < map
-    } else {
-        true
-    }
+    if has_bit(1, map) { 7 < map } else { true }
 }
 
 // Row 3 of the refusals.

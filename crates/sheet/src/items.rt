@@ -16,9 +16,8 @@ use crate::numbers::Label;
 use crate::numbers::Variable;
 use crate::refusals::Fault;
 use crate::refusals::Refusal;
-
 ghost use mathlib.Core.Path.{_≡_};
-ghost use Rattle.sheet.specs.Refusals.{severalBits, badItemMap};
+ghost use Rattle.sheet.specs.Refusals.{definedBits, severalBits, badItemMap};
 ghost use Rattle.sheet.specs.Items.{mapField, fieldsAt, itemAt, questionAt, itemsEnd};
 ghost use Rattle.sheet.specs.Statements.{questionOf};
 
@@ -82,6 +81,16 @@ fn has_several_bits(map: u8) -> bool
     map != 8
 }
 
+// The sum of the bits that a place defines.
+fn defined_bits(place: Place) -> u8
+    ensures { λ r. ⌜ r ≡ definedBits place ⌝ }
+{
+    match place {
+        Place::Record => 15,
+        Place::Question => 15,
+    }
+}
+
 // Row 5 of the refusals.
 fn is_bad_item_map(place: Place, map: u8) -> bool
     ensures { λ r. ⌜ r ≡ badItemMap place map ⌝ }
@@ -89,7 +98,7 @@ fn is_bad_item_map(place: Place, map: u8) -> bool
     if map == 0 {
         return true;
     }
-    if 15 < map {
+    if defined_bits(place) < map {
         return true;
     }
     match place {

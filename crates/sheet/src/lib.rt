@@ -1,9 +1,10 @@
 // Sheets: the byte format, its reader, and the refusals of a malformed sheet by number and offset.
-mod numbers;
-mod refusals;
 mod fields;
 mod headers;
 mod items;
+mod numbers;
+mod parts;
+mod refusals;
 mod whole;
 
 pub use fields::has_bit;
@@ -23,8 +24,8 @@ pub use numbers::Cursor;
 pub use numbers::Feature;
 pub use numbers::Label;
 pub use numbers::Variable;
+pub use parts::record_part;
 pub use refusals::Fault;
 pub use refusals::Refusal;
 pub use whole::SheetRead;
 pub use whole::read_sheet;
-pub use whole::record_part;

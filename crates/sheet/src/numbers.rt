@@ -1,6 +1,8 @@
 // The three sets of numbers of a sheet, kept apart by their types, and a place in it.
 pub struct Variable(pub u8);
+
 pub struct Feature(pub u16);
+
 pub struct Label(pub u16);
 
 // The offset of the next field.

@@ -3,16 +3,13 @@ use crate::headers::Header;
 use crate::headers::HeaderRead;
 use crate::headers::read_header;
 use crate::items::EndRead;
-use crate::items::ItemRead;
 use crate::items::Place;
 use crate::items::items_end;
-use crate::items::read_record;
 use crate::numbers::Cursor;
 use crate::refusals::Fault;
 use crate::refusals::Refusal;
-
 ghost use mathlib.Core.Path.{_≡_};
-ghost use Rattle.sheet.specs.Sheets.{bodyOf, readSheet, partAt, recordBytes};
+ghost use Rattle.sheet.specs.Sheets.{bodyOf, readSheet};
 
 // An accepted sheet: its header, and where its questions start.
 pub enum SheetRead {
@@ -49,41 +46,5 @@ pub fn read_sheet(sheet: &[u8]) -> SheetRead
     match read_header(sheet) {
         HeaderRead::Is(header) => read_body(sheet, header),
         HeaderRead::Refused(refusal) => SheetRead::Refused(refusal),
-    }
-}
-
-// The bytes of the record that so many records precede.
-fn part_at<'a>(sheet: &'a [u8], header: Header, which: u16) -> &'a [u8]
-    ensures { λ r. ⌜ now r ≡ partAt (now (sheet .entry)) header which ⌝ }
-{
-    let n = header.variables;
-    let start = match items_end(which, Place::Record, sheet, n, header.first) {
-        EndRead::At(start) => start,
-        EndRead::Refused(_) => return &sheet[..0],
-    };
-    match read_record(sheet, n, start) {
-        ItemRead::Is(_, end) => {
-            let a = start.at;
-            let e = end.at;
-            &sheet[a..e]
-        }
-        ItemRead::Refused(_) => &sheet[..0],
-    }
-}
-
-// A record's own bytes, by its number: a part of the sheet. Empty for a refused sheet, or a number not below the
-// record count.
-pub fn record_part<'a>(sheet: &'a [u8], which: u32) -> &'a [u8]
-    ensures { λ r. ⌜ now r ≡ recordBytes (now (sheet .entry)) which ⌝ }
-{
-    match read_sheet(sheet) {
-        SheetRead::Accepted(header, _) => {
-            if which < header.records as u32 {
-                part_at(sheet, header, which as u16)
-            } else {
-                &sheet[..0]
-            }
-        }
-        SheetRead::Refused(_) => &sheet[..0],
     }
 }

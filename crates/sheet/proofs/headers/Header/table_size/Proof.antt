@@ -16,9 +16,9 @@ cast-n c = search needs
 -- src/headers.rt:64:9
 mul-result : tie.Need-mul-result
 mul-result c = record { fits = lt-of-le-of-lt (mul-le-mul-right _ (le-of-lt h)) (omega arith) }
-    where
-      h : c .before .args .self .variables < 256
-      h = search needs
+  where
+    h : c .before .args .self .variables < 256
+    h = search needs
 
 -- src/headers.rt:60:5
 returns : tie.Need-returns

@@ -1,13 +1,13 @@
 use mathlib.Core.Path.{refl, sym, _∙_}
 use native.Mathlib.Omega.{arith}
-use Rattle.sheet.specs.Sheets.{partAt}
+use Rattle.sheet.specs.Parts.{partAt}
 use Rattle.sheet.proofs.Chains.{told}
 use Rattle.sheet.proofs.Lawful.{item-spans}
 use borrow.Author.Needs.{needs}
-use Rattle.sheet.proofs.whole.part_at.Statement.{statement}
-use Rattle.sheet.proofs.whole.part_at.Tie as tie
-use Rattle.sheet.proofs.whole.part_at.Reads as reads
-use Rattle.sheet.proofs.whole.part_at.Lts as lts
+use Rattle.sheet.proofs.parts.part_at.Statement.{statement}
+use Rattle.sheet.proofs.parts.part_at.Tie as tie
+use Rattle.sheet.proofs.parts.part_at.Reads as reads
+use Rattle.sheet.proofs.parts.part_at.Lts as lts
 use Rattle.sheet.proofs.items.items_end.Reads as items-end-reads
 use Rattle.sheet.proofs.items.read_record.Reads as read-record-reads
 

@@ -1,12 +1,12 @@
 use mathlib.Core.Path.{refl}
 use Rattle.sheet.proofs.Choice.{chosen, passed, is-less, not-less}
-use Rattle.sheet.specs.Sheets.{recordBytes}
+use Rattle.sheet.specs.Parts.{recordBytes}
 use borrow.Author.Needs.{needs}
-use Rattle.sheet.proofs.whole.record_part.Statement.{statement}
-use Rattle.sheet.proofs.whole.record_part.Tie as tie
-use Rattle.sheet.proofs.whole.record_part.Reads as reads
-use Rattle.sheet.proofs.whole.record_part.Lts as lts
-use Rattle.sheet.proofs.whole.part_at.Reads as part-at-reads
+use Rattle.sheet.proofs.parts.record_part.Statement.{statement}
+use Rattle.sheet.proofs.parts.record_part.Tie as tie
+use Rattle.sheet.proofs.parts.record_part.Reads as reads
+use Rattle.sheet.proofs.parts.record_part.Lts as lts
+use Rattle.sheet.proofs.parts.part_at.Reads as part-at-reads
 use Rattle.sheet.proofs.whole.read_sheet.Reads as read-sheet-reads
 
 -- src/whole.rt:79:11

@@ -1,0 +1,47 @@
+// A record's own bytes, as a part of the caller's sheet.
+use crate::headers::Header;
+use crate::items::EndRead;
+use crate::items::ItemRead;
+use crate::items::Place;
+use crate::items::items_end;
+use crate::items::read_record;
+use crate::whole::SheetRead;
+use crate::whole::read_sheet;
+ghost use mathlib.Core.Path.{_≡_};
+ghost use Rattle.sheet.specs.Parts.{partAt, recordBytes};
+
+// The bytes of the record that so many records precede.
+fn part_at<'a>(sheet: &'a [u8], header: Header, which: u16) -> &'a [u8]
+    ensures { λ r. ⌜ now r ≡ partAt (now (sheet .entry)) header which ⌝ }
+{
+    let n = header.variables;
+    let start = match items_end(which, Place::Record, sheet, n, header.first) {
+        EndRead::At(start) => start,
+        EndRead::Refused(_) => return &sheet[..0],
+    };
+    match read_record(sheet, n, start) {
+        ItemRead::Is(_, end) => {
+            let a = start.at;
+            let e = end.at;
+            &sheet[a..e]
+        }
+        ItemRead::Refused(_) => &sheet[..0],
+    }
+}
+
+// A record's own bytes, by its number: a part of the sheet. Empty for a refused sheet, or a number not below the
+// record count.
+pub fn record_part<'a>(sheet: &'a [u8], which: u32) -> &'a [u8]
+    ensures { λ r. ⌜ now r ≡ recordBytes (now (sheet .entry)) which ⌝ }
+{
+    match read_sheet(sheet) {
+        SheetRead::Accepted(header, _) => {
+            if which < header.records as u32 {
+                part_at(sheet, header, which as u16)
+            } else {
+                &sheet[..0]
+            }
+        }
+        SheetRead::Refused(_) => &sheet[..0],
+    }
+}
