@@ -7,3 +7,5 @@ pub mod Runs
 pub mod Heads
 pub mod Accepted
 pub mod Named
+pub mod Longest
+pub mod Theorems

@@ -9,7 +9,7 @@ use Rattle.sheet.specs.declared.items.Statement.{Statement}
 use Rattle.sheet.specs.declared.numbers.Cursor.{Cursor}
 use Rattle.sheet.specs.declared.whole.SheetRead.{SheetRead}
 use Rattle.sheet.specs.Items.{itemsOf}
-use Rattle.sheet.specs.Sheets.{Sheet, sheet, thenSheet, readSheet, allStatements, sheetAt, sheetOf}
+use Rattle.sheet.specs.Sheets.{Named, sheet, thenSheet, readSheet, allStatements, sheetAt, sheetOf}
 use Rattle.sheet.specs.Statements.{bitOf, statedIf, statementsOf, questionOf, Names, AllName}
 use Rattle.sheet.specs.Tests.{pick, has, same}
 use Rattle.sheet.proofs.Chains.{Of, either, after-item}
@@ -61,11 +61,6 @@ module _ (s : List ℕ) (n : ℕ) where
   questions-name (suc k) c =
       after-item (item-spans Place.Question s n c) (λ q h. record { holds = tt }) λ x next r.
       record { holds = (question-names x r .holds, questions-name k next .holds) }
-
--- what a sheet states and asks is over its own variables
-pub record Named (x : Sheet) : Type 0 where
-  pub stated : AllName (x .n) (x .stated)
-  pub asked : AllName (x .n) (x .asked)
 
 pub sheet-named : (s : List ℕ) → Named (sheetOf s)
 unfolding sheetOf sheetAt

@@ -11,7 +11,7 @@ use Rattle.sheet.specs.declared.whole.SheetRead.{SheetRead}
 use Rattle.sheet.specs.Headers.{thenHeader, headerOf}
 use Rattle.sheet.specs.Items.{thenEnd, itemsEnd, itemsOf}
 use Rattle.sheet.specs.Refusals.{numberOf, remain, trailingRefusal}
-use Rattle.sheet.specs.Statements.{statementsOf, questionOf}
+use Rattle.sheet.specs.Statements.{statementsOf, questionOf, AllName}
 use Rattle.sheet.specs.Tests.{pick}
 
 abbrev pub thenSheet : {A : Type 0} → SheetRead → (Refusal → A) → (Header → Cursor → A) → A
@@ -64,3 +64,8 @@ sheetAt s h asked =
 -- of a refused list of bytes: no variable, no statement, no question
 unfoldable pub sheetOf : List ℕ → Sheet
 sheetOf s = thenSheet (readSheet s) (λ r. sheet 0 [] []) (sheetAt s)
+
+-- what a sheet states and asks is over its own variables
+pub record Named (x : Sheet) : Type 0 where
+  pub stated : AllName (x .n) (x .stated)
+  pub asked : AllName (x .n) (x .asked)

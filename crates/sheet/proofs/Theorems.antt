@@ -1,0 +1,46 @@
+-- What the engine and the theory rest on, of every list of bytes.
+use Prim.Native.Nat.{ℕ, _≤_}
+use mathlib.Core.List.{List, map}
+use mathlib.Core.Path.{_≡_, refl, _∙_}
+use lib.ListN.{length, length-map}
+use Rattle.sheet.specs.declared.headers.Header.{Header}
+use Rattle.sheet.specs.declared.items.Place.{Place}
+use Rattle.sheet.specs.declared.numbers.Cursor.{Cursor}
+use Rattle.sheet.specs.declared.refusals.Refusal.{Refusal}
+use Rattle.sheet.specs.declared.whole.SheetRead.{SheetRead}
+use Rattle.sheet.specs.Items.{itemsOf}
+use Rattle.sheet.specs.Sheets.{Named, thenSheet, numberTold, readSheet, longest, sheetAt, sheetOf}
+use Rattle.sheet.specs.Statements.{questionOf}
+use Rattle.sheet.proofs.Accepted.{Accepts, sheet-spans}
+use Rattle.sheet.proofs.Chains.{told}
+use Rattle.sheet.proofs.Longest.{longest-sheet, longest-length, longest-accepted}
+use Rattle.sheet.proofs.Named.{sheet-named}
+use Rattle.sheet.proofs.Runs.{run-count}
+
+-- what it states and asks names variables below n
+pub names-below : (s : List ℕ) → Named (sheetOf s)
+names-below s = sheet-named s
+
+module _ (s : List ℕ) (h : Header) (asked : Cursor) (e : readSheet s ≡ SheetRead.Accepted h asked) where
+  -- where it is accepted, header, records and questions are read to its end, so that none is refused when read again
+  pub accepted-read : Accepts s h asked
+  accepted-read = told (sheet-spans s) e
+
+  -- it is no longer than the longest
+  pub accepted-short : length s ≤ longest
+  accepted-short = accepted-read .short
+
+  -- it asks as many questions as its header says
+  pub asked-count : length (sheetOf s .asked) ≡ h .questions
+  unfolding sheetOf sheetAt
+  asked-count =
+      let items = itemsOf (h .questions) Place.Question s (h .variables) asked in
+      rw e (length-map items questionOf ∙ run-count Place.Question s _ _ asked _ (accepted-read .questions-end))
+
+-- no refusal is told behind the longest sheet
+pub refused-near : (s : List ℕ) (r : Refusal) → readSheet s ≡ SheetRead.Refused r → r .at ≤ longest
+refused-near s r e = told (sheet-spans s) e
+
+-- a sheet as long as the longest is accepted
+pub longest-is-reached : (s : List ℕ) × (length s ≡ longest) × (numberTold (readSheet s) ≡ 0)
+longest-is-reached = (longest-sheet, longest-length, rw (longest-accepted .1) refl)
