@@ -1,5 +1,5 @@
-// Runs the cases of the text on standard input, one to a line: `word name: byte byte ..`. The word's first letter says what is
-// shown of the sheet that the bytes are, behind the line's word and name. Any other line is skipped.
+// Runs the cases of the text on standard input, one to a line: `word name: byte byte ..`. The word's first letter
+// says what is shown of the sheet that the bytes are, behind the line's word and name. Any other line is skipped.
 mod lengths;
 mod outcome;
 mod text;

@@ -1,23 +1,21 @@
--- What an accepted sheet is: its header, its records and its questions are read to the very end, and none is refused when they
--- are read again. No sheet is longer than the longest, and no refusal is told further on.
-use Prim.Native.Nat.{ℕ, zero, suc, _-_, _≤_, _<_}
-use mathlib.Core.List.{List, [], _∷_}
-use mathlib.Core.Path.{_≡_, refl, sym, ap, _∙_}
+-- What an accepted sheet is: its header, records and questions are read to the very end, so that none is refused when
+-- they are read again. No accepted sheet is longer than the longest, and no refusal is told further on.
+use Prim.Native.Nat.{ℕ, _-_, _≤_}
+use mathlib.Core.List.{List}
+use mathlib.Core.Path.{_≡_}
 use lib.ListN.{length}
 use native.Mathlib.Omega.{arith}
 use Rattle.sheet.specs.declared.headers.Header.{Header}
 use Rattle.sheet.specs.declared.headers.HeaderRead.{HeaderRead}
 use Rattle.sheet.specs.declared.items.EndRead.{EndRead}
-use Rattle.sheet.specs.declared.items.Item.{Item}
-use Rattle.sheet.specs.declared.items.ItemRead.{ItemRead}
 use Rattle.sheet.specs.declared.items.Place.{Place}
 use Rattle.sheet.specs.declared.numbers.Cursor.{Cursor}
 use Rattle.sheet.specs.declared.whole.SheetRead.{SheetRead}
 use Rattle.sheet.specs.Headers.{headerOf}
-use Rattle.sheet.specs.Items.{itemAt, itemsEnd, itemsOf}
+use Rattle.sheet.specs.Items.{itemsEnd}
 use Rattle.sheet.specs.Refusals.{remain}
 use Rattle.sheet.specs.Sheets.{bodyOf, readSheet, longest}
-use Rattle.sheet.proofs.Chains.{Of, told, known, either, after-header, after-end}
+use Rattle.sheet.proofs.Chains.{Of, known, either, after-header, after-end}
 use Rattle.sheet.proofs.Choice.{less-false}
 use Rattle.sheet.proofs.Heads.{Heads, header-spans}
 use Rattle.sheet.proofs.Runs.{run-spans}
@@ -39,8 +37,10 @@ pub sheet-spans : (s : List ℕ) → Of (SheetSpans s) (readSheet s)
 unfolding readSheet bodyOf remain
 sheet-spans s =
     after-header (known (header-spans s)) (λ q h. record { holds = omega arith }) λ h p.
-    after-end (known (run-spans Place.Record s (h .variables) (h .records) (h .first))) (λ q r. record { holds = omega arith }) λ asked r.
-    after-end (known (run-spans Place.Question s (h .variables) (h .questions) asked)) (λ q r′. record { holds = omega arith }) λ end r′.
+    after-end (known (run-spans Place.Record s (h .variables) (h .records) (h .first)))
+    (λ q r. record { holds = omega arith }) λ asked r.
+    after-end (known (run-spans Place.Question s (h .variables) (h .questions) asked))
+    (λ q r′. record { holds = omega arith }) λ end r′.
     either _ _ _ (λ e. record { holds = omega arith })
     λ e. let none-left = less-false _ _ e in
     let fits = r′ .1 .inside (r .1 .inside (p .1 .inside)) in

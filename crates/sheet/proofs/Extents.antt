@@ -2,7 +2,7 @@
 use Prim.Native.Nat.{ℕ, _+_, _≤_, _<_}
 use mathlib.Core.Bool.{Bool, true, false, false≢true}
 use mathlib.Core.List.{List}
-use mathlib.Core.Path.{_≡_, refl, sym, ap}
+use mathlib.Core.Path.{_≡_, refl}
 use borrow.Author.Tests.{not-false}
 use lib.ListN.{length}
 use native.Mathlib.Omega.{arith}
@@ -11,13 +11,12 @@ use Rattle.sheet.specs.declared.fields.VariableRead.{VariableRead}
 use Rattle.sheet.specs.declared.fields.WordRead.{WordRead}
 use Rattle.sheet.specs.declared.items.Item.{Item}
 use Rattle.sheet.specs.declared.items.ItemRead.{ItemRead}
-use Rattle.sheet.specs.declared.items.Place.{Place}
 use Rattle.sheet.specs.declared.numbers.Cursor.{Cursor}
 use Rattle.sheet.specs.declared.numbers.Variable.{Variable}
 use Rattle.sheet.specs.declared.refusals.Refusal.{Refusal}
-use Rattle.sheet.specs.Fields.{byteField, wordField, variableField, wordIf, variableIf, judged, variableIs}
-use Rattle.sheet.specs.Items.{mapField, fieldsAt, itemAt, fieldsWidth, width}
-use Rattle.sheet.specs.Refusals.{ends, badVariable, badItemMap, variableRefusal}
+use Rattle.sheet.specs.Fields.{byteField, wordField, variableField, wordIf, variableIf, judged}
+use Rattle.sheet.specs.Items.{fieldsAt, fieldsWidth}
+use Rattle.sheet.specs.Refusals.{ends, badVariable}
 use Rattle.sheet.specs.Tests.{pick, has}
 use Rattle.sheet.proofs.Chains.{Of, either, after-byte, after-word, after-variable}
 use Rattle.sheet.proofs.Choice.{less-true, less-false}
@@ -86,7 +85,8 @@ module _ (s : List ℕ) (c : Cursor) where
   unfolding variableIf pick
   variable-if-spans n true = weaken (variableField s n c) (variable-spans n .holds)
     where
-      weaken : (r : VariableRead) → VariableSpans s 1 c (λ i. i < n) r → Of (VariableSpans s 1 c (λ i. true ≡ true → i < n)) r
+      weaken : (r : VariableRead) → VariableSpans s 1 c (λ i. i < n) r
+          → Of (VariableSpans s 1 c (λ i. true ≡ true → i < n)) r
       weaken (VariableRead.Is f) h = record { holds = (h .0, λ e. h .1) }
       weaken (VariableRead.Refused r) h = record { holds = h }
   variable-if-spans n false = record { holds = (nothing-spans, λ e. absurd (false≢true e)) }
@@ -104,7 +104,8 @@ abbrev pub FieldsSpan : List ℕ → ℕ → ℕ → Variable → Cursor → Ite
 FieldsSpan s n map i c (ItemRead.Is x next) = Fills s n map i c x next
 FieldsSpan s n map i c (ItemRead.Refused r) = r .at ≤ c .at + fieldsWidth map
 
-pub fields-span : (s : List ℕ) (n map : ℕ) (i : Variable) (c : Cursor) → Of (FieldsSpan s n map i c) (fieldsAt s n map i c)
+pub fields-span : (s : List ℕ) (n map : ℕ) (i : Variable) (c : Cursor)
+    → Of (FieldsSpan s n map i c) (fieldsAt s n map i c)
 unfolding fieldsAt fieldsWidth
 fields-span s n map i c =
     after-variable (variable-if-spans s c n (has 1 map)) (λ q h. record { holds = omega arith }) λ v₁ c₁ p₁.

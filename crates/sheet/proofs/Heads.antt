@@ -1,5 +1,5 @@
 -- What a header that was read is: its counts within their limits, its end within six bytes.
-use Prim.Native.Nat.{ℕ, _+_, _≤_, _<_}
+use Prim.Native.Nat.{ℕ, _≤_}
 use mathlib.Core.Bool.{Bool, true, false}
 use mathlib.Core.List.{List}
 use mathlib.Core.Path.{_≡_}
@@ -14,7 +14,7 @@ use Rattle.sheet.specs.Refusals.{badHeaderMap, badVariableCount, badCoun
 use Rattle.sheet.specs.Tests.{pick, has, same, less}
 use Rattle.sheet.proofs.Chains.{Of, either, after-byte, after-word}
 use Rattle.sheet.proofs.Choice.{less-false, same-false, or-left, or-right, pick-most}
-use Rattle.sheet.proofs.Extents.{Spans, WordSpans, nothing-spans, word-spans, judged-spans}
+use Rattle.sheet.proofs.Extents.{WordSpans, nothing-spans, word-spans, judged-spans}
 
 pub record Heads (s : List ℕ) (h : Header) : Type 0 where
   pub some : 1 ≤ h .variables
@@ -50,9 +50,12 @@ counted n e =
 pub header-spans : (s : List ℕ) → Of (HeaderSpans s) (headerOf s)
 unfolding headerOf headerMap variableCount
 header-spans s =
-    after-byte (judged-spans s (cursor 0) badHeaderMap _ (omega arith)) (λ q h. record { holds = omega arith }) λ map c₁ p₁.
-    after-byte (judged-spans s c₁ badVariableCount _ (omega arith)) (λ q h. record { holds = omega arith }) λ n c₂ p₂.
-    after-word (count-if-spans s c₂ (has 2 map)) (λ q h. record { holds = omega (arith, pick-most (has 2 map) 2) }) λ r c₃ p₃.
+    after-byte (judged-spans s (cursor 0) badHeaderMap _ (omega arith))
+    (λ q h. record { holds = omega arith }) λ map c₁ p₁.
+    after-byte (judged-spans s c₁ badVariableCount _ (omega arith))
+    (λ q h. record { holds = omega arith }) λ n c₂ p₂.
+    after-word (count-if-spans s c₂ (has 2 map))
+    (λ q h. record { holds = omega (arith, pick-most (has 2 map) 2) }) λ r c₃ p₃.
     after-word (count-if-spans s c₃ (has 4 map))
     (λ q h. record { holds = omega (arith, pick-most (has 2 map) 2, pick-most (has 4 map) 2) }) λ k c₄ p₄.
     let n-is = counted n (p₂ .1) in

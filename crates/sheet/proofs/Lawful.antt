@@ -10,7 +10,7 @@ use Rattle.sheet.specs.declared.items.Item.{Item}
 use Rattle.sheet.specs.declared.items.ItemRead.{ItemRead}
 use Rattle.sheet.specs.declared.items.Place.{Place}
 use Rattle.sheet.specs.declared.numbers.Cursor.{Cursor}
-use Rattle.sheet.specs.Items.{mapField, fieldsAt, itemAt, fieldsWidth, width, most}
+use Rattle.sheet.specs.Items.{mapField, itemAt, fieldsWidth, width, most}
 use Rattle.sheet.specs.Refusals.{badItemMap, severalBits}
 use Rattle.sheet.specs.Tests.{less, same, pick, has}
 use Rattle.sheet.proofs.Chains.{Of, after-byte, after-variable, as-item}
@@ -22,7 +22,8 @@ pub one-bit : {C : Type 0} (map : ℕ) → badItemMap Place.Question map ≡ fal
     → (map ≡ 1 → C) → (map ≡ 2 → C) → (map ≡ 4 → C) → (map ≡ 8 → C) → C
 unfolding badItemMap severalBits
 one-bit map e p₁ p₂ p₄ p₈ =
-    or-cases (same map 1) _ (not-false _ (or-right (less 15 map) _ (or-right (same map 0) _ e))) (λ h. p₁ (same-true _ _ h)) λ e₂.
+    let e₁ = not-false _ (or-right (less 15 map) _ (or-right (same map 0) _ e)) in
+    or-cases (same map 1) _ e₁ (λ h. p₁ (same-true _ _ h)) λ e₂.
     or-cases (same map 2) _ e₂ (λ h. p₂ (same-true _ _ h)) λ e₄.
     or-cases (same map 4) _ e₄ (λ h. p₄ (same-true _ _ h)) λ h. p₈ (same-true _ _ h)
 
@@ -30,8 +31,14 @@ one-bit map e p₁ p₂ p₄ p₈ =
 width-record : (map : ℕ) → width map ≤ 9
 unfolding width fieldsWidth
 width-record map =
-    omega
-    (arith, pick-most (has 1 map) 1, pick-most (has 2 map) 1, pick-most (has 4 map) 2, pick-most (has 4 map) 1, pick-most (has 8 map) 2)
+    omega (
+      arith,
+      pick-most (has 1 map) 1,
+      pick-most (has 2 map) 1,
+      pick-most (has 4 map) 2,
+      pick-most (has 4 map) 1,
+      pick-most (has 8 map) 2,
+    )
 
 width-question : (map : ℕ) → badItemMap Place.Question map ≡ false → width map ≤ 5
 unfolding width fieldsWidth pick has same
@@ -63,7 +70,8 @@ most-least Place.Question = omega arith
 pub item-spans : (place : Place) (s : List ℕ) (n : ℕ) (c : Cursor) → Of (ItemSpans place s n c) (itemAt place s n c)
 unfolding itemAt mapField width
 item-spans place s n c =
-    after-byte (judged-spans s c (badItemMap place) _ (omega arith)) (λ q h. record { holds = omega (arith, most-least place) }) λ map c₁ m.
+    after-byte (judged-spans s c (badItemMap place) _ (omega arith))
+    (λ q h. record { holds = omega (arith, most-least place) }) λ map c₁ m.
     after-variable (variable-spans s c₁ n) (λ q h. record { holds = omega (arith, most-least place) }) λ i c₂ v.
     as-item (fields-span s n map i c₂) (λ q h. omega (arith, width-most place map (m .1))) λ x next f.
     record {

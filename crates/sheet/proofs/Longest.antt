@@ -16,10 +16,11 @@ use Rattle.sheet.specs.declared.items.Place.{Place}
 use Rattle.sheet.specs.declared.numbers.Cursor.{Cursor}
 use Rattle.sheet.specs.declared.numbers.Variable.{Variable}
 use Rattle.sheet.specs.declared.whole.SheetRead.{SheetRead}
-use Rattle.sheet.specs.Fields.{cursor, byteIs, wordIs, variableIs, word, byteField, wordField, variableField, wordIf, variableIf}
+use Rattle.sheet.specs.Fields.{cursor, word, byteField, wordField, variableField, wordIf, variableIf}
 use Rattle.sheet.specs.Headers.{header, headerMap, variableCount, countField, countIf, headerOf}
 use Rattle.sheet.specs.Items.{mapField, fieldsAt, itemAt, itemsEnd, fieldsWidth, width}
-use Rattle.sheet.specs.Refusals.{ends, badVariable, badItemMap, badHeaderMap, badVariableCount, badCount, severalBits, remain}
+use Rattle.sheet.specs.Refusals.{ends, badHeaderMap, badVariableCount, badCount, badItemMap, severalBits}
+use Rattle.sheet.specs.Refusals.{badVariable, remain}
 use Rattle.sheet.specs.Sheets.{bodyOf, readSheet, longest}
 use Rattle.sheet.specs.Tests.{less, same, pick, has}
 use Rattle.sheet.proofs.Chains.{Of, told, either, after-word, after-variable}
@@ -60,10 +61,12 @@ module _ (s : List ℕ) (n : ℕ) where
   variable-there : (c : Cursor) → Small s n c 1 → Of (VariableThere 1 c) (variableField s n c)
   unfolding variableField badVariable byteField ends pick
   variable-there c h =
-      rw (not-less (length s) (c .at + 1) (h .inside), is-less (getD s (c .at) 0) n (h .below (c .at) (omega arith) (omega arith)))
+      let here = is-less (getD s (c .at) 0) n (h .below (c .at) (omega arith) (omega arith)) in
+      rw (not-less (length s) (c .at + 1) (h .inside), here)
       (record { holds = refl })
 
-  word-if-there : (stands : Bool) (c : Cursor) → Small s n c (pick stands 2 0) → Of (WordThere (pick stands 2 0) c) (wordIf stands s c)
+  word-if-there : (stands : Bool) (c : Cursor) → Small s n c (pick stands 2 0)
+      → Of (WordThere (pick stands 2 0) c) (wordIf stands s c)
   unfolding wordIf wordField ends pick
   word-if-there true c h = rw (not-less (length s) (c .at + 2) (h .inside)) (record { holds = refl })
   word-if-there false c h = record { holds = omega arith }
@@ -83,22 +86,30 @@ abbrev ItemThere : ℕ → ItemRead → Type 0
 ItemThere map (ItemRead.Is x next) = x .map ≡ map
 ItemThere map (ItemRead.Refused r) = ⊥
 
-fields-there : (s : List ℕ) (n map : ℕ) (i : Variable) (c : Cursor) → Small s n c (fieldsWidth map) → Of (ItemThere map) (fieldsAt s n map i c)
+fields-there : (s : List ℕ) (n map : ℕ) (i : Variable) (c : Cursor) → Small s n c (fieldsWidth map)
+    → Of (ItemThere map) (fieldsAt s n map i c)
 unfolding fieldsAt fieldsWidth
 fields-there s n map i c h =
-    after-variable (variable-if-there s n (has 1 map) c (within h (omega arith) (omega arith))) (λ q f. absurd f) λ v₁ c₁ p₁.
-    after-variable (variable-if-there s n (has 2 map) c₁ (within h (omega arith) (omega arith))) (λ q f. absurd f) λ v₂ c₂ p₂.
-    after-word (word-if-there s n (has 4 map) c₂ (within h (omega arith) (omega arith))) (λ q f. absurd f) λ v₃ c₃ p₃.
-    after-variable (variable-if-there s n (has 4 map) c₃ (within h (omega arith) (omega arith))) (λ q f. absurd f) λ v₄ c₄ p₄.
-    after-word (word-if-there s n (has 8 map) c₄ (within h (omega arith) (omega arith))) (λ q f. absurd f) λ v₅ c₅ p₅.
+    after-variable (variable-if-there s n (has 1 map) c (within h (omega arith) (omega arith)))
+    (λ q f. absurd f) λ v₁ c₁ p₁.
+    after-variable (variable-if-there s n (has 2 map) c₁ (within h (omega arith) (omega arith)))
+    (λ q f. absurd f) λ v₂ c₂ p₂.
+    after-word (word-if-there s n (has 4 map) c₂ (within h (omega arith) (omega arith)))
+    (λ q f. absurd f) λ v₃ c₃ p₃.
+    after-variable (variable-if-there s n (has 4 map) c₃ (within h (omega arith) (omega arith)))
+    (λ q f. absurd f) λ v₄ c₄ p₄.
+    after-word (word-if-there s n (has 8 map) c₄ (within h (omega arith) (omega arith)))
+    (λ q f. absurd f) λ v₅ c₅ p₅.
     record { holds = refl }
 
-item-there : (place : Place) (s : List ℕ) (n map : ℕ) (c : Cursor) → badItemMap place map ≡ false → getD s (c .at) 0 ≡ map
+item-there : (place : Place) (s : List ℕ) (n map : ℕ) (c : Cursor) → badItemMap place map ≡ false
+    → getD s (c .at) 0 ≡ map
     → Small s n (cursor (c .at + 1)) (suc (fieldsWidth map)) → Of (ItemThere map) (itemAt place s n c)
 unfolding itemAt mapField byteField ends pick
 item-there place s n map c lawful is h =
     rw (not-less (length s) (c .at + 1) (omega arith), is, lawful)
-    (after-variable (variable-there s n (cursor (c .at + 1)) (within h (omega arith) (omega arith))) (λ q f. absurd f) λ i c₂ p.
+    (after-variable (variable-there s n (cursor (c .at + 1)) (within h (omega arith) (omega arith)))
+    (λ q f. absurd f) λ i c₂ p.
     fields-there s n map i c₂ (within h (omega arith) (omega arith)))
 
 -- so many items of one map, one behind the other
@@ -112,7 +123,8 @@ first-item s n map k c h =
     let here : c .at + 0 * width map ≡ c .at = omega arith in
     (rw here at (h .maps 0 (omega arith)), rw here at (h .others 0 (omega arith)))
 
-later-items : (s : List ℕ) (n map k : ℕ) (c next : Cursor) → next .at ≡ c .at + width map → Items s n map (suc k) c → Items s n map k next
+later-items : (s : List ℕ) (n map k : ℕ) (c next : Cursor) → next .at ≡ c .at + width map → Items s n map (suc k) c
+    → Items s n map k next
 later-items s n map k c next e h =
     record {
       maps = λ j b. rw (on j) at (h .maps (suc j) (omega arith));
@@ -122,25 +134,35 @@ later-items s n map k c next e h =
     on : (j : ℕ) → c .at + suc j * width map ≡ next .at + j * width map
     on j = omega (arith, suc-mul j (width map))
 
-items-there : {C : Type 0} (place : Place) (s : List ℕ) (n map : ℕ) → badItemMap place map ≡ false → (k : ℕ) (c : Cursor)
-    → Items s n map k c
-    → ((end : Cursor) → itemsEnd k place s n c ≡ EndRead.At end → end .at ≡ c .at + k * width map → C) → C
-unfolding itemsEnd
-items-there place s n map lawful zero c h go = go c refl (omega arith)
-items-there {C} place s n map lawful (suc k) c h go = first (itemAt place s n c) refl (items-there place s n map lawful k)
-  where
-    first : (r : ItemRead) → itemAt place s n c ≡ r
-        → ((c : Cursor) → Items s n map k c → ((end : Cursor) → itemsEnd k place s n c ≡ EndRead.At end → end .at ≡ c .at + k * width map → C) → C) → C
-    first (ItemRead.Is x next) e rest =
-        let m = told (item-there place s n map c lawful (first-item s n map k c h .0) (first-item s n map k c h .1)) e in
-        let r = told (item-spans place s n c) e in
-        let reaches : next .at ≡ c .at + width map = rw m at (r .reaches) in
-        rest next (later-items s n map k c next reaches h) λ end q at-end.
-        go end (rw e q) (omega (arith, suc-mul k (width map)))
-    first (ItemRead.Refused q) e rest =
-        absurd (told (item-there place s n map c lawful (first-item s n map k c h .0) (first-item s n map k c h .1)) e)
+-- where they end
+record Ends (place : Place) (s : List ℕ) (n map k : ℕ) (c : Cursor) : Type 0 where
+  end : Cursor
+  is : itemsEnd k place s n c ≡ EndRead.At end
+  reaches : end .at ≡ c .at + k * width map
 
--- the bytes: header 7 128 4 0 4 0, from 6 on the map 15 at every ninth byte, from 9222 on the map 4 at every fifth, and else 0
+items-there : (place : Place) (s : List ℕ) (n map : ℕ) → badItemMap place map ≡ false → (k : ℕ) (c : Cursor)
+    → Items s n map k c → Ends place s n map k c
+unfolding itemsEnd
+items-there place s n map lawful zero c h = record { end = c; is = refl; reaches = omega arith }
+items-there place s n map lawful (suc k) c h = on (itemAt place s n c) refl (items-there place s n map lawful k)
+  where
+    there : Of (ItemThere map) (itemAt place s n c)
+    there = let first = first-item s n map k c h in item-there place s n map c lawful (first .0) (first .1)
+
+    found : (x : Item) (next : Cursor) → itemAt place s n c ≡ ItemRead.Is x next → next .at ≡ c .at + width map
+        → Ends place s n map k next → Ends place s n map (suc k) c
+    found x next e ahead later =
+        record { end = later .end; is = rw e (later .is); reaches = omega (arith, suc-mul k (width map)) }
+
+    on : (r : ItemRead) → itemAt place s n c ≡ r → ((c : Cursor) → Items s n map k c → Ends place s n map k c)
+        → Ends place s n map (suc k) c
+    on (ItemRead.Is x next) e rest =
+        let ahead : next .at ≡ c .at + width map = rw (told there e) at (told (item-spans place s n c) e .reaches) in
+        found x next e ahead (rest next (later-items s n map k c next ahead h))
+    on (ItemRead.Refused q) e rest = absurd (told there e)
+
+-- its bytes: the header 7 128 4 0 4 0, from 6 on the map 15 at every ninth byte, from 9222 on the map 4 at every fifth,
+-- and else 0
 head : ℕ → ℕ
 head zero = 7
 head (suc zero) = 128
@@ -268,9 +290,9 @@ module _ (s : List ℕ) (long : length s ≡ longest) (byte : (o : ℕ) → o < 
   accepted : (asked : Cursor) × (readSheet s ≡ SheetRead.Accepted (header 7 128 1024 1024 (cursor 6)) asked)
   unfolding readSheet bodyOf remain width fieldsWidth pick has same
   accepted =
-      items-there Place.Record s 128 15 lawful-record 1024 (cursor 6) (records (cursor 6) refl) λ asked p at-asked.
-      items-there Place.Question s 128 4 lawful-question 1024 asked (questions asked at-asked) λ end q at-end.
-      (asked, rw (header-there, p, q, not-less (end .at) (length s) (omega arith)) refl)
+      let r = items-there Place.Record s 128 15 lawful-record 1024 (cursor 6) (records (cursor 6) refl) in
+      let q = items-there Place.Question s 128 4 lawful-question 1024 (r .end) (questions (r .end) (r .reaches)) in
+      (r .end, rw (header-there, r .is, q .is, not-less (q .end .at) (length s) (omega arith)) refl)
 
 -- the longest sheet
 pub longest-sheet : List ℕ
@@ -280,6 +302,9 @@ pub longest-length : length longest-sheet ≡ longest
 unfolding longest-sheet
 longest-length = tabled-length longestByte longest 0
 
-pub longest-accepted : (asked : Cursor) × (readSheet longest-sheet ≡ SheetRead.Accepted (header 7 128 1024 1024 (cursor 6)) asked)
+pub longest-accepted : (asked : Cursor)
+    × (readSheet longest-sheet ≡ SheetRead.Accepted (header 7 128 1024 1024 (cursor 6)) asked)
 unfolding longest-sheet
-longest-accepted = accepted _ (tabled-length longestByte longest 0) (λ o h. tabled-at longestByte longest 0 o h ∙ ap longestByte (omega arith))
+longest-accepted =
+    accepted _ (tabled-length longestByte longest 0)
+    (λ o h. tabled-at longestByte longest 0 o h ∙ ap longestByte (omega arith))

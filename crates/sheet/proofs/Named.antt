@@ -45,7 +45,9 @@ module _ {place : Place} {s : List ℕ} {n : ℕ} {c next : Cursor} (x : Item) w
 pub question-alone : {s : List ℕ} {n : ℕ} {c next : Cursor} (x : Item) → Reads Place.Question s n c x next
     → (statementsOf x ≡ questionOf x ∷ []) × (x .map ≡ bitOf (questionOf x))
 unfolding statementsOf questionOf pick has same
-question-alone x r = one-bit (x .map) (r .lawful) (λ m. rw m (refl, refl)) (λ m. rw m (refl, refl)) (λ m. rw m (refl, refl)) (λ m. rw m (refl, refl))
+question-alone x r =
+    one-bit (x .map) (r .lawful) (λ m. rw m (refl, refl)) (λ m. rw m (refl, refl)) (λ m. rw m (refl, refl))
+    (λ m. rw m (refl, refl))
 
 module _ (s : List ℕ) (n : ℕ) where
   records-name : (k : ℕ) (c : Cursor) → Of (λ xs. AllName n (allStatements xs)) (itemsOf k Place.Record s n c)

@@ -64,14 +64,16 @@ never e = let z : _≡_ {A = ℕ} 0 1 = cc in omega arith
 pub run-next : {C : Type 0} (place : Place) (s : List ℕ) (n : ℕ) (c end : Cursor) (left : ℕ) → 0 < left
     → itemsEnd left place s n c ≡ EndRead.At end
     → ((x : Item) (next : Cursor) → itemAt place s n c ≡ ItemRead.Is x next
-    → itemsEnd (left - 1) place s n next ≡ EndRead.At end → itemsOf left place s n c ≡ x ∷ itemsOf (left - 1) place s n next → C)
+    → itemsEnd (left - 1) place s n next ≡ EndRead.At end
+    → itemsOf left place s n c ≡ x ∷ itemsOf (left - 1) place s n next → C)
     → C
 unfolding itemsOf
 run-next place s n c end zero h e go = absurd (omega arith)
 run-next {C} place s n c end (suc left) h e go = first (itemAt place s n c) refl
   where
     first : (r : ItemRead) → itemAt place s n c ≡ r → C
-    first (ItemRead.Is x next) i = go x next i (sym (run-on place s n c (suc left) x next h i) ∙ e) (rw (i, sub-one) refl)
+    first (ItemRead.Is x next) i =
+        go x next i (sym (run-on place s n c (suc left) x next h i) ∙ e) (rw (i, sub-one) refl)
     first (ItemRead.Refused r) i = absurd (never (sym (run-refused place s n c (suc left) r h i) ∙ e))
 
 -- it has as many items as it was asked for

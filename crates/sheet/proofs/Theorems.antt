@@ -1,6 +1,6 @@
 -- What the engine and the theory rest on, of every list of bytes.
 use Prim.Native.Nat.{ℕ, _≤_}
-use mathlib.Core.List.{List, map}
+use mathlib.Core.List.{List}
 use mathlib.Core.Path.{_≡_, refl, _∙_}
 use lib.ListN.{length, length-map}
 use Rattle.sheet.specs.declared.headers.Header.{Header}
@@ -9,7 +9,7 @@ use Rattle.sheet.specs.declared.numbers.Cursor.{Cursor}
 use Rattle.sheet.specs.declared.refusals.Refusal.{Refusal}
 use Rattle.sheet.specs.declared.whole.SheetRead.{SheetRead}
 use Rattle.sheet.specs.Items.{itemsOf}
-use Rattle.sheet.specs.Sheets.{Named, thenSheet, numberTold, readSheet, longest, sheetAt, sheetOf}
+use Rattle.sheet.specs.Sheets.{Named, numberTold, readSheet, longest, sheetAt, sheetOf}
 use Rattle.sheet.specs.Statements.{questionOf}
 use Rattle.sheet.proofs.Accepted.{Accepts, sheet-spans}
 use Rattle.sheet.proofs.Chains.{told}

@@ -1,12 +1,15 @@
--- One field at a cursor: looked for whole, then judged. Each answer has a `then`, which reads on behind the field or passes the refusal.
+-- One field at a cursor: looked for whole, then judged. Each answer has a `then`: it reads on behind the field, or
+-- passes the refusal on.
 use Prim.Native.Nat.{ℕ, _+_, _*_}
-use mathlib.Core.Bool.{Bool, true, false}
+use mathlib.Core.Bool.{Bool}
 use mathlib.Core.List.{List}
 use lib.ListN.{getD}
 use Rattle.sheet.specs.declared.fields.ByteRead.{ByteRead}
 use Rattle.sheet.specs.declared.fields.VariableRead.{VariableRead}
 use Rattle.sheet.specs.declared.fields.WordRead.{WordRead}
 use Rattle.sheet.specs.declared.numbers.Cursor.{Cursor}
+use Rattle.sheet.specs.declared.numbers.Feature.{Feature}
+use Rattle.sheet.specs.declared.numbers.Label.{Label}
 use Rattle.sheet.specs.declared.numbers.Variable.{Variable}
 use Rattle.sheet.specs.declared.refusals.Refusal.{Refusal}
 use Rattle.sheet.specs.Refusals.{ends, cut, badVariable, variableRefusal}
@@ -17,6 +20,12 @@ cursor at = record { at = at }
 
 abbrev pub variable : ℕ → Variable
 variable i = record { 0 = i }
+
+abbrev pub feature : ℕ → Feature
+feature f = record { 0 = f }
+
+abbrev pub label : ℕ → Label
+label a = record { 0 = a }
 
 -- the field of a byte, of two bytes, of a variable, and where the next field starts
 abbrev pub byteIs : ℕ → Cursor → ByteRead

@@ -1,6 +1,6 @@
 -- The header: a map byte, then by rising bit the fields whose bit stands.
 use Prim.Native.Nat.{ℕ, _*_}
-use mathlib.Core.Bool.{Bool, true, false}
+use mathlib.Core.Bool.{Bool}
 use mathlib.Core.List.{List}
 use Rattle.sheet.specs.declared.fields.ByteRead.{ByteRead}
 use Rattle.sheet.specs.declared.fields.WordRead.{WordRead}
@@ -9,7 +9,8 @@ use Rattle.sheet.specs.declared.headers.HeaderRead.{HeaderRead}
 use Rattle.sheet.specs.declared.numbers.Cursor.{Cursor}
 use Rattle.sheet.specs.declared.refusals.Refusal.{Refusal}
 use Rattle.sheet.specs.Fields.{cursor, wordIs, thenByte, thenWord, judged, byteField, wordField}
-use Rattle.sheet.specs.Refusals.{badHeaderMap, headerMapRefusal, badVariableCount, variableCountRefusal, badCount, countRefusal}
+use Rattle.sheet.specs.Refusals.{badHeaderMap, headerMapRefusal, badVariableCount, variableCountRefusal}
+use Rattle.sheet.specs.Refusals.{badCount, countRefusal}
 use Rattle.sheet.specs.Tests.{pick, has}
 
 abbrev pub header : ℕ → ℕ → ℕ → ℕ → Cursor → Header

@@ -10,7 +10,8 @@ use Rattle.sheet.specs.declared.items.QuestionRead.{QuestionRead}
 use Rattle.sheet.specs.declared.numbers.Cursor.{Cursor}
 use Rattle.sheet.specs.declared.numbers.Variable.{Variable}
 use Rattle.sheet.specs.declared.refusals.Refusal.{Refusal}
-use Rattle.sheet.specs.Fields.{thenByte, thenWord, thenVariable, judged, byteField, variableField, wordIf, variableIf}
+use Rattle.sheet.specs.Fields.{feature, label, thenByte, thenWord, thenVariable}
+use Rattle.sheet.specs.Fields.{judged, byteField, variableField, wordIf, variableIf}
 use Rattle.sheet.specs.Refusals.{badItemMap, itemMapRefusal}
 use Rattle.sheet.specs.Statements.{questionOf}
 use Rattle.sheet.specs.Tests.{pick, has}
@@ -18,7 +19,7 @@ use Rattle.sheet.specs.Tests.{pick, has}
 abbrev pub item : ℕ → Variable → Variable → Variable → ℕ → Variable → ℕ → Item
 item map i j partner f child a =
     record
-    { map = map; subject = i; target = j; partner = partner; feature = record { 0 = f }; child = child; label = record { 0 = a } }
+    { map = map; subject = i; target = j; partner = partner; feature = feature f; child = child; label = label a }
 
 abbrev pub thenItem : {A : Type 0} → ItemRead → (Refusal → A) → (Item → Cursor → A) → A
 thenItem (ItemRead.Is x next) refused on = on x next
@@ -34,7 +35,8 @@ mapField place s c = judged (badItemMap place) (itemMapRefusal c) (byteField s c
 -- how many bytes an item of this map takes: map, subject, target, partner, feature and child, label
 unfoldable pub fieldsWidth : ℕ → ℕ
 fieldsWidth map =
-    pick (has 1 map) 1 0 + (pick (has 2 map) 1 0 + (pick (has 4 map) 2 0 + (pick (has 4 map) 1 0 + pick (has 8 map) 2 0)))
+    pick (has 1 map) 1 0
+    + (pick (has 2 map) 1 0 + (pick (has 4 map) 2 0 + (pick (has 4 map) 1 0 + pick (has 8 map) 2 0)))
 
 unfoldable pub width : ℕ → ℕ
 width map = 2 + fieldsWidth map
@@ -62,7 +64,8 @@ itemAt place s n c =
     fieldsAt s n map i c₂
 
 unfoldable pub questionAt : List ℕ → ℕ → Cursor → QuestionRead
-questionAt s n c = thenItem (itemAt Place.Question s n c) QuestionRead.Refused λ x next. QuestionRead.Asks (questionOf x) next
+questionAt s n c =
+    thenItem (itemAt Place.Question s n c) QuestionRead.Refused λ x next. QuestionRead.Asks (questionOf x) next
 
 -- where so many items from c on end
 unfoldable pub itemsEnd : ℕ → Place → List ℕ → ℕ → Cursor → EndRead

@@ -1,6 +1,6 @@
 -- The refusals, row by row: its number, its condition, and the offset that is told.
 use Prim.Native.Nat.{ℕ, _+_}
-use mathlib.Core.Bool.{Bool, true, false, not, _||_}
+use mathlib.Core.Bool.{Bool, false, not, _||_}
 use mathlib.Core.List.{List}
 use lib.ListN.{length}
 use Rattle.sheet.specs.declared.items.Place.{Place}
@@ -52,7 +52,8 @@ badCount count = less 1024 count
 abbrev pub countRefusal : Cursor → Refusal
 countRefusal field = refusal Fault.Count (field .at)
 
--- 5, record or question map: 0, a bit that the place does not define (4 to 7), or in a question more than one bit; told at the map
+-- 5, record or question map: 0, a bit that the place does not define (4 to 7), or in a question more than one bit;
+-- told at the map
 abbrev pub definedBits : Place → ℕ
 definedBits Place.Record = 15
 definedBits Place.Question = 15

@@ -1,11 +1,10 @@
+-- The slice keeps its length.
 use borrow.Author.Needs.{needs}
 use mathlib.Core.Path.{_≡_}
 use lib.ListN.{length, length-set}
 use native.Mathlib.Omega.{arith}
 use Rattle.cases.proofs.lengths.put_every.Statement.{statement}
 use Rattle.cases.proofs.lengths.put_every.Tie as tie
-use Rattle.cases.proofs.lengths.put_every.Reads as reads
-use Rattle.cases.proofs.lengths.put_every.Lts as lts
 
 abbrev Inv-loop : tie.InvT-loop
 Inv-loop s₀ start step value len left₀ at₀ s left at = (length s ≡ length s₀) × (len ≡ length s₀)
@@ -13,55 +12,42 @@ Inv-loop s₀ start step value len left₀ at₀ s left at = (length s ≡ lengt
 abbrev μ-loop : tie.MeasureT-loop
 μ-loop s₀ start step value len left₀ at₀ s left at = left
 
--- src/lengths.rt:24:5
 loop-holds : tie.Need-loop-holds Inv-loop μ-loop
 loop-holds c = search needs
 
--- src/lengths.rt:26:13
 same-length : tie.Need-same-length Inv-loop μ-loop
 same-length c = search needs
 
--- src/lengths.rt:26:13
 returns : tie.Need-returns Inv-loop μ-loop
 returns c = search needs
 
--- src/lengths.rt:28:9
 slice-write-s : tie.Need-slice-write-s Inv-loop μ-loop
 slice-write-s c = search needs
 
--- src/lengths.rt:29:12
 sub-if2 : tie.Need-sub-if2 Inv-loop μ-loop
 sub-if2 c = search needs
 
--- src/lengths.rt:30:13
 same-length-2 : tie.Need-same-length-2 Inv-loop μ-loop
 same-length-2 c = simp length-set (omega arith)
 
--- src/lengths.rt:30:13
 returns-2 : tie.Need-returns-2 Inv-loop μ-loop
 returns-2 c = search needs
 
--- src/lengths.rt:32:9
 add-at : tie.Need-add-at Inv-loop μ-loop
 add-at c = search needs
 
--- src/lengths.rt:33:9
 sub-left : tie.Need-sub-left Inv-loop μ-loop
 sub-left c = search needs
 
--- src/lengths.rt:24:5
 loop-less : tie.Need-loop-less Inv-loop μ-loop
 loop-less c = search needs
 
--- src/lengths.rt:24:5
 loop-again : tie.Need-loop-again Inv-loop μ-loop
 loop-again c = simp length-set (omega arith)
 
--- src/lengths.rt:20:1
 same-length-3 : tie.Need-same-length-3 Inv-loop μ-loop
 same-length-3 c = search needs
 
--- src/lengths.rt:20:1
 returns-3 : tie.Need-returns-3 Inv-loop μ-loop
 returns-3 c = search needs
 

@@ -1,15 +1,9 @@
+-- The index stays inside the part.
 use borrow.Author.Needs.{needs}
 use Prim.Native.Nat.{_≤_, _-_}
 use lib.ListN.{length}
 use Rattle.cases.proofs.outcome.show_part.Statement.{statement}
 use Rattle.cases.proofs.outcome.show_part.Tie as tie
-use Rattle.cases.proofs.outcome.show_part.Reads as reads
-use Rattle.cases.proofs.outcome.show_part.Lts as lts
-use Rattle.cases.proofs.outcome.byte.Reads as byte-reads
-use Rattle.cases.proofs.outcome.line_end.Reads as line-end-reads
-use Rattle.cases.proofs.outcome.number.Reads as number-reads
-use Rattle.io.proofs.write_all.Reads as write-all-reads
-use Rattle.sheet.proofs.record_part.Reads as record-part-reads
 
 abbrev Inv-loop : tie.InvT-loop
 Inv-loop name bytes which part i₀ i = i ≤ length part
@@ -17,55 +11,42 @@ Inv-loop name bytes which part i₀ i = i ≤ length part
 abbrev μ-loop : tie.MeasureT-loop
 μ-loop name bytes which part i₀ i = length part - i
 
--- src/outcome.rt:64:5
 write-all-requires : tie.Need-write-all-requires Inv-loop μ-loop
 write-all-requires c κs = search needs
 
--- src/outcome.rt:65:5
 number-requires : tie.Need-number-requires Inv-loop μ-loop
 number-requires c κs = search needs
 
--- src/outcome.rt:66:22
 slice-aggregate-write-all : tie.Need-slice-aggregate-write-all Inv-loop μ-loop
 slice-aggregate-write-all c = search needs
 
--- src/outcome.rt:66:5
 write-all-requires-2 : tie.Need-write-all-requires-2 Inv-loop μ-loop
 write-all-requires-2 c κs = search needs
 
--- src/outcome.rt:67:9
 record-part-requires : tie.Need-record-part-requires Inv-loop μ-loop
 record-part-requires c κs = search needs
 
--- src/outcome.rt:69:5
 loop-holds : tie.Need-loop-holds Inv-loop μ-loop
 loop-holds c = search needs
 
--- src/outcome.rt:70:14
 shared-slice-read-byte : tie.Need-shared-slice-read-byte Inv-loop μ-loop
 shared-slice-read-byte c = search needs
 
--- src/outcome.rt:70:9
 byte-requires : tie.Need-byte-requires Inv-loop μ-loop
 byte-requires c κs = search needs
 
--- src/outcome.rt:71:9
 add-i : tie.Need-add-i Inv-loop μ-loop
 add-i c = search needs
 
--- src/outcome.rt:69:5
 loop-less : tie.Need-loop-less Inv-loop μ-loop
 loop-less c = search needs
 
--- src/outcome.rt:69:5
 loop-again : tie.Need-loop-again Inv-loop μ-loop
 loop-again c = search needs
 
--- src/outcome.rt:73:5
 line-end-requires : tie.Need-line-end-requires Inv-loop μ-loop
 line-end-requires c κs = search needs
 
--- src/outcome.rt:63:1
 returns : tie.Need-returns Inv-loop μ-loop
 returns c = search needs
 

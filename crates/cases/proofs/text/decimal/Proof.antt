@@ -1,11 +1,9 @@
+-- The index stays inside the digits.
 use borrow.Author.Needs.{needs}
 use Prim.Native.Nat.{_≤_, _-_}
 use lib.ListN.{length}
 use Rattle.cases.proofs.text.decimal.Statement.{statement}
 use Rattle.cases.proofs.text.decimal.Tie as tie
-use Rattle.cases.proofs.text.decimal.Reads as reads
-use Rattle.cases.proofs.text.decimal.Lts as lts
-use Rattle.cases.proofs.text.with_digit.Reads as with-digit-reads
 
 abbrev Inv-loop : tie.InvT-loop
 Inv-loop digits value₀ i₀ value i = i ≤ length digits
@@ -13,35 +11,27 @@ Inv-loop digits value₀ i₀ value i = i ≤ length digits
 abbrev μ-loop : tie.MeasureT-loop
 μ-loop digits value₀ i₀ value i = length digits - i
 
--- src/text.rt:27:5
 loop-holds : tie.Need-loop-holds Inv-loop μ-loop
 loop-holds c = search needs
 
--- src/text.rt:28:35
 shared-slice-read-with-digit : tie.Need-shared-slice-read-with-digit Inv-loop μ-loop
 shared-slice-read-with-digit c = search needs
 
--- src/text.rt:28:9
 with-digit-requires : tie.Need-with-digit-requires Inv-loop μ-loop
 with-digit-requires c κs = search needs
 
--- src/text.rt:29:9
 add-i : tie.Need-add-i Inv-loop μ-loop
 add-i c = search needs
 
--- src/text.rt:27:5
 loop-less : tie.Need-loop-less Inv-loop μ-loop
 loop-less c = search needs
 
--- src/text.rt:27:5
 loop-again : tie.Need-loop-again Inv-loop μ-loop
 loop-again c = search needs
 
--- src/text.rt:31:5
 cast-result : tie.Need-cast-result Inv-loop μ-loop
 cast-result c = search needs
 
--- src/text.rt:24:1
 returns : tie.Need-returns Inv-loop μ-loop
 returns c = search needs
 

@@ -1,3 +1,4 @@
+-- The count stays within the room.
 use borrow.Author.Needs.{needs}
 use Prim.Native.Nat.{_≤_, _-_}
 use mathlib.Core.Path.{_≡_}
@@ -5,10 +6,6 @@ use lib.ListN.{length, length-set}
 use native.Mathlib.Omega.{arith}
 use Rattle.cases.proofs.text.numbers.Statement.{statement}
 use Rattle.cases.proofs.text.numbers.Tie as tie
-use Rattle.cases.proofs.text.numbers.Reads as reads
-use Rattle.cases.proofs.text.numbers.Lts as lts
-use Rattle.cases.proofs.text.decimal.Reads as decimal-reads
-use Rattle.cases.proofs.text.end_of.Reads as end-of-reads
 
 abbrev Inv-loop : tie.InvT-loop
 Inv-loop text out₀ room count₀ at₀ out count at = (length out ≡ length out₀) × (count ≤ room) × (room ≡ length out₀)
@@ -16,63 +13,48 @@ Inv-loop text out₀ room count₀ at₀ out count at = (length out ≡ length o
 abbrev μ-loop : tie.MeasureT-loop
 μ-loop text out₀ room count₀ at₀ out count at = length text - at
 
--- src/text.rt:41:5
 loop-holds : tie.Need-loop-holds Inv-loop μ-loop
 loop-holds c = search needs
 
--- src/text.rt:43:13
 same-length : tie.Need-same-length Inv-loop μ-loop
 same-length c = search needs
 
--- src/text.rt:43:13
 returns : tie.Need-returns Inv-loop μ-loop
 returns c = search needs
 
--- src/text.rt:45:13
 end-of-requires : tie.Need-end-of-requires Inv-loop μ-loop
 end-of-requires c κs = search needs
 
--- src/text.rt:46:30
 sub-decimal : tie.Need-sub-decimal Inv-loop μ-loop
 sub-decimal c = search needs
 
--- src/text.rt:46:30
 part-decimal-start : tie.Need-part-decimal-start Inv-loop μ-loop
 part-decimal-start c = search needs
 
--- src/text.rt:46:30
 part-decimal-end : tie.Need-part-decimal-end Inv-loop μ-loop
 part-decimal-end c = search needs
 
--- src/text.rt:46:22
 decimal-requires : tie.Need-decimal-requires Inv-loop μ-loop
 decimal-requires c κs = search needs
 
--- src/text.rt:46:9
 slice-write-out : tie.Need-slice-write-out Inv-loop μ-loop
 slice-write-out c = search needs
 
--- src/text.rt:47:9
 add-count : tie.Need-add-count Inv-loop μ-loop
 add-count c = search needs
 
--- src/text.rt:48:14
 add-at : tie.Need-add-at Inv-loop μ-loop
 add-at c = search needs
 
--- src/text.rt:41:5
 loop-less : tie.Need-loop-less Inv-loop μ-loop
 loop-less c = search needs
 
--- src/text.rt:41:5
 loop-again : tie.Need-loop-again Inv-loop μ-loop
 loop-again c = simp length-set (omega arith)
 
--- src/text.rt:35:1
 same-length-2 : tie.Need-same-length-2 Inv-loop μ-loop
 same-length-2 c = search needs
 
--- src/text.rt:35:1
 returns-2 : tie.Need-returns-2 Inv-loop μ-loop
 returns-2 c = search needs
 

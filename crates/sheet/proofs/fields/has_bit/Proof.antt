@@ -1,3 +1,4 @@
+-- The bit of a value: by division, and false for the value 0.
 use mathlib.Core.Path.{refl, sym}
 use native.Mathlib.Nat.{div-zero}
 use native.Mathlib.Omega.{arith}
@@ -6,19 +7,14 @@ use Rattle.sheet.specs.Tests.{has, same}
 use borrow.Author.Needs.{needs}
 use Rattle.sheet.proofs.fields.has_bit.Statement.{statement}
 use Rattle.sheet.proofs.fields.has_bit.Tie as tie
-use Rattle.sheet.proofs.fields.has_bit.Reads as reads
-use Rattle.sheet.proofs.fields.has_bit.Lts as lts
 
--- src/fields.rt:50:9
 returns : tie.Need-returns
 unfolding has
 returns c = sym (rw (c .if1 .taken, div-zero) (not-same 0 1 (omega arith)))
 
--- src/fields.rt:52:5
 div-result : tie.Need-div-result
 div-result c = search needs
 
--- src/fields.rt:46:1
 returns-2 : tie.Need-returns-2
 unfolding has same
 returns-2 c = refl

@@ -1,41 +1,39 @@
+-- A byte that is read is judged against n.
 use mathlib.Core.Path.{refl}
-use native.Mathlib.Omega.{arith}
 use Rattle.sheet.proofs.Choice.{chosen, passed, is-less, not-less}
 use Rattle.sheet.specs.Fields.{variableField}
 use Rattle.sheet.specs.Refusals.{badVariable}
 use borrow.Author.Needs.{needs}
 use Rattle.sheet.proofs.fields.read_variable.Statement.{statement}
 use Rattle.sheet.proofs.fields.read_variable.Tie as tie
-use Rattle.sheet.proofs.fields.read_variable.Reads as reads
-use Rattle.sheet.proofs.fields.read_variable.Lts as lts
-use Rattle.sheet.proofs.fields.read_byte.Reads as read-byte-reads
 
--- src/fields.rt:106:11
 read-byte-requires : tie.Need-read-byte-requires
 read-byte-requires c κs = search needs
 
--- src/fields.rt:107:27
 enum-known-refusal : tie.Need-enum-known-refusal
 enum-known-refusal c = search needs
 
--- src/fields.rt:108:22
 enum-known-field : tie.Need-enum-known-field
 enum-known-field c = search needs
 
--- src/fields.rt:103:1
 returns : tie.Need-returns
 unfolding variableField
 returns c = rw (← c .before .before .before .read-byte .ensures, c .before .refusal .given .1) refl
 
--- src/fields.rt:103:1
 returns-2 : tie.Need-returns-2
 unfolding variableField badVariable
-returns-2 c = rw (← c .before .before .before .before .before .before .read-byte .ensures, c .before .before .before .before .field .given .1) (passed _ _ _ (rw (is-less _ _ (c .before .if1 .taken))) refl)
+returns-2 c =
+    rw (
+      ← c .before .before .before .before .before .before .read-byte .ensures,
+      c .before .before .before .before .field .given .1,
+    )
+    (passed _ _ _ (rw (is-less _ _ (c .before .if1 .taken))) refl)
 
--- src/fields.rt:103:1
 returns-3 : tie.Need-returns-3
 unfolding variableField badVariable
-returns-3 c = rw (← c .before .before .before .before .before .read-byte .ensures, c .before .before .before .field .given .1) (chosen _ _ _ (rw (not-less _ _ (c .if1 .left))) refl)
+returns-3 c =
+    rw (← c .before .before .before .before .before .read-byte .ensures, c .before .before .before .field .given .1)
+    (chosen _ _ _ (rw (not-less _ _ (c .if1 .left))) refl)
 
 pub read-variable-spec : {M : Type 1} → statement M
 read-variable-spec =

@@ -1,24 +1,18 @@
+-- The flag chooses between the field and nothing.
 use mathlib.Core.Path.{refl}
-use native.Mathlib.Omega.{arith}
 use Rattle.sheet.proofs.Choice.{chosen, passed}
 use Rattle.sheet.specs.Fields.{variableIf}
 use borrow.Author.Needs.{needs}
 use Rattle.sheet.proofs.fields.read_variable_if.Statement.{statement}
 use Rattle.sheet.proofs.fields.read_variable_if.Tie as tie
-use Rattle.sheet.proofs.fields.read_variable_if.Reads as reads
-use Rattle.sheet.proofs.fields.read_variable_if.Lts as lts
-use Rattle.sheet.proofs.fields.read_variable.Reads as read-variable-reads
 
--- src/fields.rt:144:9
 read-variable-requires : tie.Need-read-variable-requires
 read-variable-requires c κs = search needs
 
--- src/fields.rt:140:1
 returns : tie.Need-returns
 unfolding variableIf
 returns c = chosen _ _ _ (c .before .if1 .taken) (c .read-variable .ensures)
 
--- src/fields.rt:140:1
 returns-2 : tie.Need-returns-2
 unfolding variableIf
 returns-2 c = passed _ _ _ (c .if1 .left) refl

@@ -1,3 +1,4 @@
+-- Two tests decide: the sheet ends before the high byte or before the low one.
 use mathlib.Core.Path.{refl}
 use native.Mathlib.Omega.{arith}
 use Rattle.sheet.proofs.Choice.{chosen, passed, is-less, not-less}
@@ -6,50 +7,36 @@ use Rattle.sheet.specs.Refusals.{ends}
 use borrow.Author.Needs.{needs}
 use Rattle.sheet.proofs.fields.read_word.Statement.{statement}
 use Rattle.sheet.proofs.fields.read_word.Tie as tie
-use Rattle.sheet.proofs.fields.read_word.Reads as reads
-use Rattle.sheet.proofs.fields.read_word.Lts as lts
-use Rattle.sheet.proofs.fields.cut_off.Reads as cut-off-reads
-use Rattle.sheet.proofs.fields.word_of.Reads as word-of-reads
 
--- src/fields.rt:90:34
 cut-off-requires : tie.Need-cut-off-requires
 cut-off-requires c κs = search needs
 
--- src/fields.rt:90:9
 returns : tie.Need-returns
 unfolding wordField ends
 returns c = rw (c .cut-off .ensures) (chosen _ _ _ (is-less _ _ (omega arith)) refl)
 
--- src/fields.rt:92:15
 add-low : tie.Need-add-low
 add-low c = search needs
 
--- src/fields.rt:94:34
 cut-off-requires-2 : tie.Need-cut-off-requires-2
 cut-off-requires-2 c κs = search needs
 
--- src/fields.rt:94:9
 returns-2 : tie.Need-returns-2
 unfolding wordField ends
 returns-2 c = rw (c .cut-off2 .ensures) (chosen _ _ _ (is-less _ _ (omega arith)) refl)
 
--- src/fields.rt:97:24
 shared-slice-read-word-of : tie.Need-shared-slice-read-word-of
 shared-slice-read-word-of c = search needs
 
--- src/fields.rt:97:35
 shared-slice-read-word-of-2 : tie.Need-shared-slice-read-word-of-2
 shared-slice-read-word-of-2 c = search needs
 
--- src/fields.rt:97:16
 word-of-requires : tie.Need-word-of-requires
 word-of-requires c κs = search needs
 
--- src/fields.rt:98:28
 add-t5 : tie.Need-add-t5
 add-t5 c = search needs
 
--- src/fields.rt:85:1
 returns-3 : tie.Need-returns-3
 unfolding wordField ends
 returns-3 c = rw (c .word-of .ensures) (passed _ _ _ (not-less _ _ (omega arith)) refl)

@@ -1,24 +1,18 @@
+-- The flag chooses between the field and nothing.
 use mathlib.Core.Path.{refl}
-use native.Mathlib.Omega.{arith}
 use Rattle.sheet.proofs.Choice.{chosen, passed}
 use Rattle.sheet.specs.Fields.{wordIf}
 use borrow.Author.Needs.{needs}
 use Rattle.sheet.proofs.fields.read_word_if.Statement.{statement}
 use Rattle.sheet.proofs.fields.read_word_if.Tie as tie
-use Rattle.sheet.proofs.fields.read_word_if.Reads as reads
-use Rattle.sheet.proofs.fields.read_word_if.Lts as lts
-use Rattle.sheet.proofs.fields.read_word.Reads as read-word-reads
 
--- src/fields.rt:130:9
 read-word-requires : tie.Need-read-word-requires
 read-word-requires c κs = search needs
 
--- src/fields.rt:126:1
 returns : tie.Need-returns
 unfolding wordIf
 returns c = chosen _ _ _ (c .before .if1 .taken) (c .read-word .ensures)
 
--- src/fields.rt:126:1
 returns-2 : tie.Need-returns-2
 unfolding wordIf
 returns-2 c = passed _ _ _ (c .if1 .left) refl

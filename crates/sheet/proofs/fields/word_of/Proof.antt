@@ -1,20 +1,16 @@
+-- Two bytes are at most 65,535 together.
 use mathlib.Core.Path.{refl}
 use Rattle.sheet.specs.Fields.{word}
 use borrow.Author.Needs.{needs}
 use Rattle.sheet.proofs.fields.word_of.Statement.{statement}
 use Rattle.sheet.proofs.fields.word_of.Tie as tie
-use Rattle.sheet.proofs.fields.word_of.Reads as reads
-use Rattle.sheet.proofs.fields.word_of.Lts as lts
 
--- src/fields.rt:59:5
 mul-result : tie.Need-mul-result
 mul-result c = search needs
 
--- src/fields.rt:59:5
 add-result : tie.Need-add-result
 add-result c = search needs
 
--- src/fields.rt:56:1
 returns : tie.Need-returns
 unfolding word
 returns c = refl

@@ -1,18 +1,15 @@
-use mathlib.Core.Path.{refl, sym}
+-- Each answer is a side of the disjunction.
+use mathlib.Core.Path.{sym}
 use Rattle.sheet.proofs.Choice.{is-same, not-same}
 use Rattle.sheet.specs.Refusals.{badVariableCount}
 use Rattle.sheet.specs.Tests.{less}
 use Rattle.sheet.proofs.headers.is_bad_variable_count.Statement.{statement}
 use Rattle.sheet.proofs.headers.is_bad_variable_count.Tie as tie
-use Rattle.sheet.proofs.headers.is_bad_variable_count.Reads as reads
-use Rattle.sheet.proofs.headers.is_bad_variable_count.Lts as lts
 
--- src/headers.rt:84:9
 returns : tie.Need-returns
 unfolding badVariableCount
 returns c = sym (rw (is-same _ _ (c .if1 .taken)))
 
--- src/headers.rt:80:1
 returns-2 : tie.Need-returns-2
 unfolding badVariableCount less
 returns-2 c = sym (rw (not-same _ _ (c .if1 .left)))

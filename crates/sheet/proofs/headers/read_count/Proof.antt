@@ -1,3 +1,4 @@
+-- Two bytes that are read are judged against the limit.
 use mathlib.Core.Path.{refl}
 use Rattle.sheet.proofs.Choice.{chosen, passed, is-less, not-less}
 use Rattle.sheet.specs.Headers.{countField}
@@ -5,36 +6,31 @@ use Rattle.sheet.specs.Refusals.{badCount}
 use borrow.Author.Needs.{needs}
 use Rattle.sheet.proofs.headers.read_count.Statement.{statement}
 use Rattle.sheet.proofs.headers.read_count.Tie as tie
-use Rattle.sheet.proofs.headers.read_count.Reads as reads
-use Rattle.sheet.proofs.headers.read_count.Lts as lts
-use Rattle.sheet.proofs.fields.read_word.Reads as read-word-reads
 
--- src/headers.rt:129:11
 read-word-requires : tie.Need-read-word-requires
 read-word-requires c κs = search needs
 
--- src/headers.rt:130:27
 enum-known-refusal : tie.Need-enum-known-refusal
 enum-known-refusal c = search needs
 
--- src/headers.rt:131:22
 enum-known-field : tie.Need-enum-known-field
 enum-known-field c = search needs
 
--- src/headers.rt:126:1
 returns : tie.Need-returns
 unfolding countField
 returns c = rw (← c .before .before .before .read-word .ensures, c .before .refusal .given .1) refl
 
--- src/headers.rt:126:1
 returns-2 : tie.Need-returns-2
 unfolding countField badCount
-returns-2 c = rw (← c .before .before .before .before .before .read-word .ensures, c .before .before .before .field .given .1) (chosen _ _ _ (is-less _ _ (c .if1 .taken)) refl)
+returns-2 c =
+    rw (← c .before .before .before .before .before .read-word .ensures, c .before .before .before .field .given .1)
+    (chosen _ _ _ (is-less _ _ (c .if1 .taken)) refl)
 
--- src/headers.rt:126:1
 returns-3 : tie.Need-returns-3
 unfolding countField badCount
-returns-3 c = rw (← c .before .before .before .before .before .read-word .ensures, c .before .before .before .field .given .1) (passed _ _ _ (not-less _ _ (c .if1 .left)) refl)
+returns-3 c =
+    rw (← c .before .before .before .before .before .read-word .ensures, c .before .before .before .field .given .1)
+    (passed _ _ _ (not-less _ _ (c .if1 .left)) refl)
 
 pub read-count-spec : {M : Type 1} → statement M
 read-count-spec =

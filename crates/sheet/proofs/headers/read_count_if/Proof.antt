@@ -1,23 +1,18 @@
+-- The flag chooses between the count and 0.
 use mathlib.Core.Path.{refl}
 use Rattle.sheet.proofs.Choice.{chosen, passed}
 use Rattle.sheet.specs.Headers.{countIf}
 use borrow.Author.Needs.{needs}
 use Rattle.sheet.proofs.headers.read_count_if.Statement.{statement}
 use Rattle.sheet.proofs.headers.read_count_if.Tie as tie
-use Rattle.sheet.proofs.headers.read_count_if.Reads as reads
-use Rattle.sheet.proofs.headers.read_count_if.Lts as lts
-use Rattle.sheet.proofs.headers.read_count.Reads as read-count-reads
 
--- src/headers.rt:149:9
 read-count-requires : tie.Need-read-count-requires
 read-count-requires c κs = search needs
 
--- src/headers.rt:145:1
 returns : tie.Need-returns
 unfolding countIf
 returns c = chosen _ _ _ (c .before .if1 .taken) (c .read-count .ensures)
 
--- src/headers.rt:145:1
 returns-2 : tie.Need-returns-2
 unfolding countIf
 returns-2 c = passed _ _ _ (c .if1 .left) refl

@@ -1,32 +1,36 @@
+-- The maps of one bit are told apart one by one.
 use Rattle.sheet.specs.Tests.{same}
-use mathlib.Core.Path.{refl, sym}
+use mathlib.Core.Path.{sym}
 use Rattle.sheet.proofs.Choice.{is-same, not-same}
 use Rattle.sheet.specs.Refusals.{severalBits}
-use Rattle.sheet.specs.Tests.{less}
 use Rattle.sheet.proofs.items.has_several_bits.Statement.{statement}
 use Rattle.sheet.proofs.items.has_several_bits.Tie as tie
-use Rattle.sheet.proofs.items.has_several_bits.Reads as reads
-use Rattle.sheet.proofs.items.has_several_bits.Lts as lts
 
--- src/items.rt:73:9
 returns : tie.Need-returns
 unfolding severalBits
 returns c = sym (rw (is-same _ _ (c .if1 .taken)))
 
--- src/items.rt:76:9
 returns-2 : tie.Need-returns-2
 unfolding severalBits
 returns-2 c = sym (rw (not-same _ _ (c .before .if1 .left), is-same _ _ (c .if2 .taken)))
 
--- src/items.rt:79:9
 returns-3 : tie.Need-returns-3
 unfolding severalBits
-returns-3 c = sym (rw (not-same _ _ (c .before .before .if1 .left), not-same _ _ (c .before .if2 .left), is-same _ _ (c .if3 .taken)))
+returns-3 c =
+    sym (rw (
+      not-same _ _ (c .before .before .if1 .left),
+      not-same _ _ (c .before .if2 .left),
+      is-same _ _ (c .if3 .taken),
+    ))
 
--- src/items.rt:69:1
 returns-4 : tie.Need-returns-4
 unfolding severalBits same
-returns-4 c = sym (rw (not-same _ _ (c .before .before .if1 .left), not-same _ _ (c .before .if2 .left), not-same _ _ (c .if3 .left)))
+returns-4 c =
+    sym (rw (
+      not-same _ _ (c .before .before .if1 .left),
+      not-same _ _ (c .before .if2 .left),
+      not-same _ _ (c .if3 .left),
+    ))
 
 pub has-several-bits-spec : {M : Type 1} → statement M
 has-several-bits-spec = tie.close (tie.spec returns returns-2 returns-3 returns-4)

@@ -1,49 +1,56 @@
+-- Each answer is a part of the disjunction, the last by place.
 use mathlib.Core.Path.{refl, sym}
 use Rattle.sheet.proofs.Choice.{is-same, not-same, is-less, not-less}
 use Rattle.sheet.specs.Refusals.{badItemMap}
 use borrow.Author.Needs.{needs}
 use Rattle.sheet.proofs.items.is_bad_item_map.Statement.{statement}
 use Rattle.sheet.proofs.items.is_bad_item_map.Tie as tie
-use Rattle.sheet.proofs.items.is_bad_item_map.Reads as reads
-use Rattle.sheet.proofs.items.is_bad_item_map.Lts as lts
-use Rattle.sheet.proofs.items.defined_bits.Reads as defined-bits-reads
-use Rattle.sheet.proofs.items.has_several_bits.Reads as has-several-bits-reads
 
--- src/items.rt:99:9
 returns : tie.Need-returns
 unfolding badItemMap
 returns c = sym (rw (is-same _ _ (c .if1 .taken)))
 
--- src/items.rt:101:8
 defined-bits-requires : tie.Need-defined-bits-requires
 defined-bits-requires c κs = search needs
 
--- src/items.rt:102:9
 returns-2 : tie.Need-returns-2
 unfolding badItemMap
-returns-2 c = sym (rw (not-same _ _ (c .before .before .if1 .left), ← c .before .defined-bits .ensures, is-less _ _ (c .if2 .taken)))
+returns-2 c =
+    sym (rw (
+      not-same _ _ (c .before .before .if1 .left),
+      ← c .before .defined-bits .ensures,
+      is-less _ _ (c .if2 .taken),
+    ))
 
--- src/items.rt:105:26
 enum-told : tie.Need-enum-told
 enum-told c = search needs
 
--- src/items.rt:106:28
 enum-told-2 : tie.Need-enum-told-2
 enum-told-2 c = search needs
 
--- src/items.rt:106:28
 has-several-bits-requires : tie.Need-has-several-bits-requires
 has-several-bits-requires c κs = search needs
 
--- src/items.rt:95:1
 returns-3 : tie.Need-returns-3
 unfolding badItemMap
-returns-3 c = sym (rw (not-same _ _ (c .before .before .before .before .if1 .left), ← c .before .before .before .defined-bits .ensures, not-less _ _ (c .before .before .if2 .left), c .enum-told .given .1) refl)
+returns-3 c =
+    sym (rw (
+      not-same _ _ (c .before .before .before .before .if1 .left),
+      ← c .before .before .before .defined-bits .ensures,
+      not-less _ _ (c .before .before .if2 .left),
+      c .enum-told .given .1,
+    ) refl)
 
--- src/items.rt:95:1
 returns-4 : tie.Need-returns-4
 unfolding badItemMap
-returns-4 c = rw (not-same _ _ (c .before .before .before .before .before .if1 .left), ← c .before .before .before .before .defined-bits .ensures, not-less _ _ (c .before .before .before .if2 .left), c .before .enum-told2 .given .1) (c .has-several-bits .ensures)
+returns-4 c =
+    rw (
+      not-same _ _ (c .before .before .before .before .before .if1 .left),
+      ← c .before .before .before .before .defined-bits .ensures,
+      not-less _ _ (c .before .before .before .if2 .left),
+      c .before .enum-told2 .given .1,
+    )
+    (c .has-several-bits .ensures)
 
 pub is-bad-item-map-spec : {M : Type 1} → statement M
 is-bad-item-map-spec =

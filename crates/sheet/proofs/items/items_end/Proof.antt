@@ -1,3 +1,4 @@
+-- The loop counts down: what is left to read from here ends where all of it does.
 use mathlib.Core.Path.{_≡_, refl, sym, _∙_}
 use native.Mathlib.Omega.{arith}
 use borrow.Author.Needs.{needs}
@@ -5,9 +6,6 @@ use Rattle.sheet.specs.Items.{itemsEnd}
 use Rattle.sheet.proofs.Runs.{run-over, run-on, run-refused}
 use Rattle.sheet.proofs.items.items_end.Statement.{statement}
 use Rattle.sheet.proofs.items.items_end.Tie as tie
-use Rattle.sheet.proofs.items.items_end.Reads as reads
-use Rattle.sheet.proofs.items.items_end.Lts as lts
-use Rattle.sheet.proofs.items.read_item.Reads as read-item-reads
 
 abbrev Inv-loop : tie.InvT-loop
 Inv-loop count place sheet n left₀ at₀ left at =
@@ -16,39 +14,38 @@ Inv-loop count place sheet n left₀ at₀ left at =
 abbrev μ-loop : tie.MeasureT-loop
 μ-loop count place sheet n left₀ at₀ left at = left
 
--- src/items.rt:218:5
 loop-holds : tie.Need-loop-holds Inv-loop μ-loop
 loop-holds c = refl
 
--- src/items.rt:219:15
 read-item-requires : tie.Need-read-item-requires Inv-loop μ-loop
 read-item-requires c κs = search needs
 
--- src/items.rt:220:29
 enum-known-next : tie.Need-enum-known-next Inv-loop μ-loop
 enum-known-next c = search needs
 
--- src/items.rt:223:31
 enum-known-refusal : tie.Need-enum-known-refusal Inv-loop μ-loop
 enum-known-refusal c = search needs
 
--- src/items.rt:223:43
 returns : tie.Need-returns Inv-loop μ-loop
-returns c = sym (run-refused _ _ _ _ _ _ (c .before .before .before .before .loop-test .taken) (sym (c .before .before .before .read-item .ensures) ∙ c .before .refusal .given .1)) ∙ c .before .before .before .before .before .loop .inv
+returns c =
+    sym (run-refused _ _ _ _ _ _ (c .before .before .before .before .loop-test .taken)
+    (sym (c .before .before .before .read-item .ensures)
+    ∙ c .before .refusal .given .1))
+    ∙ c .before .before .before .before .before .loop .inv
 
--- src/items.rt:225:9
 sub-left : tie.Need-sub-left Inv-loop μ-loop
 sub-left c = omega arith
 
--- src/items.rt:218:5
 loop-less : tie.Need-loop-less Inv-loop μ-loop
 loop-less c = omega arith
 
--- src/items.rt:218:5
 loop-again : tie.Need-loop-again Inv-loop μ-loop
-loop-again c = sym (run-on _ _ _ _ _ _ _ (c .before .before .before .before .loop-test .taken) (sym (c .before .before .before .read-item .ensures) ∙ c .before .next .given .1)) ∙ c .before .before .before .before .before .loop .inv
+loop-again c =
+    sym (run-on _ _ _ _ _ _ _ (c .before .before .before .before .loop-test .taken)
+    (sym (c .before .before .before .read-item .ensures)
+    ∙ c .before .next .given .1))
+    ∙ c .before .before .before .before .before .loop .inv
 
--- src/items.rt:213:1
 returns-2 : tie.Need-returns-2 Inv-loop μ-loop
 returns-2 c = sym (run-over _ _ _ _ _ (c .loop-test .left)) ∙ c .before .loop .inv
 

@@ -1,44 +1,54 @@
+-- The bits are asked in their order.
 use mathlib.Core.Path.{refl}
 use Rattle.sheet.proofs.Choice.{chosen, passed}
 use Rattle.sheet.specs.Statements.{questionOf}
 use borrow.Author.Needs.{needs}
 use Rattle.sheet.proofs.items.question_of.Statement.{statement}
 use Rattle.sheet.proofs.items.question_of.Tie as tie
-use Rattle.sheet.proofs.items.question_of.Reads as reads
-use Rattle.sheet.proofs.items.question_of.Lts as lts
-use Rattle.sheet.proofs.fields.has_bit.Reads as has-bit-reads
 
--- src/items.rt:185:8
 has-bit-requires : tie.Need-has-bit-requires
 has-bit-requires c κs = search needs
 
--- src/items.rt:187:9
 returns : tie.Need-returns
 unfolding questionOf
 returns c = rw (← c .before .before .has-bit .ensures) (chosen _ _ _ (c .before .if1 .taken) refl)
 
--- src/items.rt:189:8
 has-bit-requires-2 : tie.Need-has-bit-requires-2
 has-bit-requires-2 c κs = search needs
 
--- src/items.rt:191:9
 returns-2 : tie.Need-returns-2
 unfolding questionOf
-returns-2 c = rw (← c .before .before .before .before .has-bit .ensures, ← c .before .before .has-bit2 .ensures) (passed _ _ _ (c .before .before .before .if1 .left) (chosen _ _ _ (c .before .if2 .taken) refl))
+returns-2 c =
+    rw (← c .before .before .before .before .has-bit .ensures, ← c .before .before .has-bit2 .ensures)
+    (passed _ _ _ (c .before .before .before .if1 .left)
+    (chosen _ _ _ (c .before .if2 .taken) refl))
 
--- src/items.rt:193:8
 has-bit-requires-3 : tie.Need-has-bit-requires-3
 has-bit-requires-3 c κs = search needs
 
--- src/items.rt:196:9
 returns-3 : tie.Need-returns-3
 unfolding questionOf
-returns-3 c = rw (← c .before .before .before .before .before .before .before .has-bit .ensures, ← c .before .before .before .before .before .has-bit2 .ensures, ← c .before .before .before .has-bit3 .ensures) (passed _ _ _ (c .before .before .before .before .before .before .if1 .left) (passed _ _ _ (c .before .before .before .before .if2 .left) (chosen _ _ _ (c .before .before .if3 .taken) refl)))
+returns-3 c =
+    rw (
+      ← c .before .before .before .before .before .before .before .has-bit .ensures,
+      ← c .before .before .before .before .before .has-bit2 .ensures,
+      ← c .before .before .before .has-bit3 .ensures,
+    )
+    (passed _ _ _ (c .before .before .before .before .before .before .if1 .left)
+    (passed _ _ _ (c .before .before .before .before .if2 .left)
+    (chosen _ _ _ (c .before .before .if3 .taken) refl)))
 
--- src/items.rt:181:1
 returns-4 : tie.Need-returns-4
 unfolding questionOf
-returns-4 c = rw (← c .before .before .before .before .before .before .has-bit .ensures, ← c .before .before .before .before .has-bit2 .ensures, ← c .before .before .has-bit3 .ensures) (passed _ _ _ (c .before .before .before .before .before .if1 .left) (passed _ _ _ (c .before .before .before .if2 .left) (passed _ _ _ (c .before .if3 .left) refl)))
+returns-4 c =
+    rw (
+      ← c .before .before .before .before .before .before .has-bit .ensures,
+      ← c .before .before .before .before .has-bit2 .ensures,
+      ← c .before .before .has-bit3 .ensures,
+    )
+    (passed _ _ _ (c .before .before .before .before .before .if1 .left)
+    (passed _ _ _ (c .before .before .before .if2 .left)
+    (passed _ _ _ (c .before .if3 .left) refl)))
 
 pub question-of-spec : {M : Type 1} → statement M
 question-of-spec =

@@ -1,57 +1,53 @@
+-- Accepted or not, below the record count or not.
 use mathlib.Core.Path.{refl}
 use Rattle.sheet.proofs.Choice.{chosen, passed, is-less, not-less}
 use Rattle.sheet.specs.Parts.{recordBytes}
 use borrow.Author.Needs.{needs}
 use Rattle.sheet.proofs.parts.record_part.Statement.{statement}
 use Rattle.sheet.proofs.parts.record_part.Tie as tie
-use Rattle.sheet.proofs.parts.record_part.Reads as reads
-use Rattle.sheet.proofs.parts.record_part.Lts as lts
-use Rattle.sheet.proofs.parts.part_at.Reads as part-at-reads
-use Rattle.sheet.proofs.whole.read_sheet.Reads as read-sheet-reads
 
--- src/whole.rt:79:11
 read-sheet-requires : tie.Need-read-sheet-requires
 read-sheet-requires c κs = search needs
 
--- src/whole.rt:80:29
 enum-known-header : tie.Need-enum-known-header
 enum-known-header c = search needs
 
--- src/whole.rt:81:24
 cast-if1 : tie.Need-cast-if1
 cast-if1 c = search needs
 
--- src/whole.rt:82:40
 cast-part-at : tie.Need-cast-part-at
 cast-part-at c = search needs
 
--- src/whole.rt:82:17
 part-at-requires : tie.Need-part-at-requires
 part-at-requires c κs = search needs
 
--- src/whole.rt:84:17
 slice-aggregate-result : tie.Need-slice-aggregate-result
 slice-aggregate-result c = search needs
 
--- src/whole.rt:87:34
 enum-told : tie.Need-enum-told
 enum-told c = search needs
 
--- src/whole.rt:87:34
 slice-aggregate-result-2 : tie.Need-slice-aggregate-result-2
 slice-aggregate-result-2 c = search needs
 
--- src/whole.rt:76:1
 returns : tie.Need-returns
 unfolding recordBytes
-returns c = rw (← c .before .before .before .before .before .before .read-sheet .ensures, c .before .before .before .before .header .given .1) (chosen _ _ _ (is-less _ _ (c .before .if1 .taken)) (c .part-at .ensures))
+returns c =
+    rw (
+      ← c .before .before .before .before .before .before .read-sheet .ensures,
+      c .before .before .before .before .header .given .1,
+    )
+    (chosen _ _ _ (is-less _ _ (c .before .if1 .taken)) (c .part-at .ensures))
 
--- src/whole.rt:76:1
 returns-2 : tie.Need-returns-2
 unfolding recordBytes
-returns-2 c = rw (← c .before .before .before .before .before .before .read-sheet .ensures, c .before .before .before .before .header .given .1) (passed _ _ _ (not-less _ _ (c .before .if1 .left)) refl)
+returns-2 c =
+    rw (
+      ← c .before .before .before .before .before .before .read-sheet .ensures,
+      c .before .before .before .before .header .given .1,
+    )
+    (passed _ _ _ (not-less _ _ (c .before .if1 .left)) refl)
 
--- src/whole.rt:76:1
 returns-3 : tie.Need-returns-3
 unfolding recordBytes
 returns-3 c = rw (← c .before .before .before .read-sheet .ensures, c .before .enum-told .given .1) refl

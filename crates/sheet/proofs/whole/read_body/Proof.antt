@@ -1,3 +1,4 @@
+-- Each answer is the chain of runs so far.
 use mathlib.Core.Path.{refl}
 use Rattle.sheet.proofs.Choice.{chosen, passed, is-less, not-less}
 use Rattle.sheet.specs.Sheets.{bodyOf}
@@ -5,53 +6,67 @@ use Rattle.sheet.specs.Refusals.{remain}
 use borrow.Author.Needs.{needs}
 use Rattle.sheet.proofs.whole.read_body.Statement.{statement}
 use Rattle.sheet.proofs.whole.read_body.Tie as tie
-use Rattle.sheet.proofs.whole.read_body.Reads as reads
-use Rattle.sheet.proofs.whole.read_body.Lts as lts
-use Rattle.sheet.proofs.items.items_end.Reads as items-end-reads
 
--- src/whole.rt:28:23
 items-end-requires : tie.Need-items-end-requires
 items-end-requires c κs = search needs
 
--- src/whole.rt:29:21
 enum-known-end : tie.Need-enum-known-end
 enum-known-end c = search needs
 
--- src/whole.rt:30:26
 enum-known-refusal : tie.Need-enum-known-refusal
 enum-known-refusal c = search needs
 
--- src/whole.rt:30:38
 returns : tie.Need-returns
 unfolding bodyOf
 returns c = rw (← c .before .before .before .items-end .ensures, c .before .refusal .given .1) refl
 
--- src/whole.rt:32:21
 items-end-requires-2 : tie.Need-items-end-requires-2
 items-end-requires-2 c κs = search needs
 
--- src/whole.rt:33:21
 enum-known-end-2 : tie.Need-enum-known-end-2
 enum-known-end-2 c = search needs
 
--- src/whole.rt:34:26
 enum-known-refusal-2 : tie.Need-enum-known-refusal-2
 enum-known-refusal-2 c = search needs
 
--- src/whole.rt:34:38
 returns-2 : tie.Need-returns-2
 unfolding bodyOf
-returns-2 c = rw (← c .before .before .before .before .before .before .before .items-end .ensures, c .before .before .before .before .before .end .given .1, ← c .before .before .before .items-end2 .ensures, c .before .refusal2 .given .1) refl
+returns-2 c =
+    let questions = c .before in
+    let records = questions .before .before .before .before in
+    rw (
+      ← records .before .before .items-end .ensures,
+      records .end .given .1,
+      ← questions .before .before .items-end2 .ensures,
+      questions .refusal2 .given .1,
+    )
+    refl
 
--- src/whole.rt:37:9
 returns-3 : tie.Need-returns-3
 unfolding bodyOf remain
-returns-3 c = rw (← c .before .before .before .before .before .before .before .before .before .items-end .ensures, c .before .before .before .before .before .before .before .end .given .1, ← c .before .before .before .before .before .items-end2 .ensures, c .before .before .before .end2 .given .1) (chosen _ _ _ (is-less _ _ (c .if1 .taken)) refl)
+returns-3 c =
+    let questions = c .before .before .before in
+    let records = questions .before .before .before .before in
+    rw (
+      ← records .before .before .items-end .ensures,
+      records .end .given .1,
+      ← questions .before .before .items-end2 .ensures,
+      questions .end2 .given .1,
+    )
+    (chosen _ _ _ (is-less _ _ (c .if1 .taken)) refl)
 
--- src/whole.rt:24:1
 returns-4 : tie.Need-returns-4
 unfolding bodyOf remain
-returns-4 c = rw (← c .before .before .before .before .before .before .before .before .before .items-end .ensures, c .before .before .before .before .before .before .before .end .given .1, ← c .before .before .before .before .before .items-end2 .ensures, c .before .before .before .end2 .given .1) (passed _ _ _ (not-less _ _ (c .if1 .left)) refl)
+returns-4 c =
+    let questions = c .before .before .before in
+    let records = questions .before .before .before .before in
+    rw (
+      ← records .before .before .items-end .ensures,
+      records .end .given .1,
+      ← questions .before .before .items-end2 .ensures,
+      questions .end2 .given .1,
+    )
+    (passed _ _ _ (not-less _ _ (c .if1 .left)) refl)
 
 pub read-body-spec : {M : Type 1} → statement M
 read-body-spec =

@@ -1,35 +1,28 @@
+-- The header passes or refuses.
 use mathlib.Core.Path.{refl}
 use Rattle.sheet.specs.Sheets.{readSheet}
 use borrow.Author.Needs.{needs}
 use Rattle.sheet.proofs.whole.read_sheet.Statement.{statement}
 use Rattle.sheet.proofs.whole.read_sheet.Tie as tie
-use Rattle.sheet.proofs.whole.read_sheet.Reads as reads
-use Rattle.sheet.proofs.whole.read_sheet.Lts as lts
-use Rattle.sheet.proofs.headers.read_header.Reads as read-header-reads
-use Rattle.sheet.proofs.whole.read_body.Reads as read-body-reads
 
--- src/whole.rt:49:11
 read-header-requires : tie.Need-read-header-requires
 read-header-requires c κs = search needs
 
--- src/whole.rt:50:24
 enum-known-header : tie.Need-enum-known-header
 enum-known-header c = search needs
 
--- src/whole.rt:50:35
 read-body-requires : tie.Need-read-body-requires
 read-body-requires c κs = search needs
 
--- src/whole.rt:51:29
 enum-known-refusal : tie.Need-enum-known-refusal
 enum-known-refusal c = search needs
 
--- src/whole.rt:46:1
 returns : tie.Need-returns
 unfolding readSheet
-returns c = rw (← c .before .before .before .before .read-header .ensures, c .before .before .header .given .1) (c .read-body .ensures)
+returns c =
+    rw (← c .before .before .before .before .read-header .ensures, c .before .before .header .given .1)
+    (c .read-body .ensures)
 
--- src/whole.rt:46:1
 returns-2 : tie.Need-returns-2
 unfolding readSheet
 returns-2 c = rw (← c .before .before .before .read-header .ensures, c .before .refusal .given .1) refl

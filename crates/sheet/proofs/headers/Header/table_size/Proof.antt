@@ -1,3 +1,4 @@
+-- The square of a byte fits.
 use native.Mathlib.Nat.{le-of-lt, lt-of-le-of-lt, mul-le-mul-right}
 use native.Mathlib.Omega.{arith}
 use Prim.Native.Nat.{_<_}
@@ -6,21 +7,16 @@ use Rattle.sheet.specs.Headers.{tableSize}
 use borrow.Author.Needs.{needs}
 use Rattle.sheet.proofs.headers.Header.table_size.Statement.{statement}
 use Rattle.sheet.proofs.headers.Header.table_size.Tie as tie
-use Rattle.sheet.proofs.headers.Header.table_size.Reads as reads
-use Rattle.sheet.proofs.headers.Header.table_size.Lts as lts
 
--- src/headers.rt:63:17
 cast-n : tie.Need-cast-n
 cast-n c = search needs
 
--- src/headers.rt:64:9
 mul-result : tie.Need-mul-result
 mul-result c = record { fits = lt-of-le-of-lt (mul-le-mul-right _ (le-of-lt h)) (omega arith) }
   where
     h : c .before .args .self .variables < 256
     h = search needs
 
--- src/headers.rt:60:5
 returns : tie.Need-returns
 unfolding tableSize
 returns c = refl
