@@ -1,4 +1,4 @@
--- Sheets as they were first stated: header, records, questions; refusals 1 to 7 with their offsets.
+-- The format of a sheet as it was first stated, by nested cases. A number other than 0 is a refusal's.
 use mathlib.Core.Bool.{Bool, true, false, _&&_, _||_, not}
 use mathlib.Core.List.{List, [], _∷_}
 use Prim.Native.Nat.{ℕ, zero, suc, _+_, _-_, _*_, _/_, _%_, _^_}
@@ -12,7 +12,7 @@ pick false a b = b
 abbrev pub bit : ℕ → ℕ → Bool
 bit i v = eqb (v / 2 ^ i % 2) 1
 
--- statements: 1 i ≤ j, 2 i ~ j, 3 i[f]j, 4 a(i)
+-- a statement by the number of its kind: i ≤ j is 1, i ~ j is 2, i[f]j is 3 with f, a(i) is 4 with a in the place of f
 pub record Statement : Type 0 where
   pub kind : ℕ
   pub i : ℕ
@@ -55,7 +55,7 @@ got n o s = record { number = n; offset = o; sheet-is = s }
 abbrev pub bad : ℕ → ℕ → Got
 bad n o = got n o (sheet 0 [] [])
 
--- a record or question: its fault with offset, its statements, where it ends
+-- one item as it was read, or what is told of its refusal
 pub record Item : Type 0 where
   pub number : ℕ
   pub offset : ℕ
@@ -71,7 +71,7 @@ byteAt s o = getD s o 0
 abbrev pub wordAt : List ℕ → ℕ → ℕ
 wordAt s o = 256 * getD s o 0 + getD s (suc o) 0
 
--- a field of some bytes at o: 1 if the sheet ends in it
+-- whether the sheet ends before the k bytes at o are over
 abbrev pub cut : List ℕ → ℕ → ℕ → Bool
 cut s o k = ltb (length s) (o + k)
 
@@ -81,7 +81,7 @@ oneBit m = eqb m 1 || (eqb m 2 || (eqb m 4 || eqb m 8))
 abbrev pub mapFault : Bool → ℕ → Bool
 mapFault isQuestion m = eqb m 0 || (ltb 15 m || (isQuestion && not (oneBit m)))
 
--- fields by rising bit; fault items name their offset
+-- the steps of an item, each for one bit of its map; a refused item passes them unchanged
 abbrev pub cutItem : List ℕ → Item
 cutItem s = item 1 (length s) [] 0
 
@@ -145,7 +145,7 @@ itemAt isQuestion s n o =
       ]
     ]
 
--- questions, then nothing
+-- the questions left, and behind the last of them nothing
 unfoldable pub questionsFrom : ℕ → List ℕ → ℕ → ℕ → List Statement → List Statement → Got
 questionsFrom zero s n o st al = pick (ltb o (length s)) (bad 7 o) (got 0 0 (sheet n st al))
 questionsFrom (suc q) s n o st al =
@@ -164,7 +164,7 @@ recordsFrom (suc r) q s n o st =
       | false ↦ bad (x .number) (x .offset)
     ]
 
--- the header
+-- what a header is read as
 pub record Header : Type 0 where
   pub number : ℕ
   pub offset : ℕ
@@ -233,7 +233,7 @@ readSheet s =
       | false ↦ recordsFrom (h .records) (h .questions) s (h .n) (h .next) []
     ]
 
--- a record's own bytes by its number
+-- the bytes of the record with this number
 unfoldable pub recordBytesFrom : ℕ → List ℕ → ℕ → ℕ → List ℕ
 recordBytesFrom zero s n o = take (itemAt false s n o .next - o) (drop o s)
 recordBytesFrom (suc k) s n o = recordBytesFrom k s n (itemAt false s n o .next)

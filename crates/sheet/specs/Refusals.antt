@@ -24,36 +24,35 @@ numberOf Fault.ShortReplies = 9
 abbrev pub refusal : Fault → ℕ → Refusal
 refusal fault at = record { fault = fault; at = at }
 
--- 1, anywhere: the sheet ends inside a field or before one that is due; told at the sheet's length
+-- 1, anywhere: a field that is due is missing or incomplete; told at the sheet's length
 unfoldable pub ends : List ℕ → ℕ → ℕ → Bool
 ends s at width = less (length s) (at + width)
 
 abbrev pub cut : List ℕ → Refusal
 cut s = refusal Fault.Cut (length s)
 
--- 2, header map: bit 0 missing, or a bit that the header does not define (3 to 7); told at 0
+-- 2, header map: without bit 0, or with a bit that a header does not define, 3 to 7; told at 0
 unfoldable pub badHeaderMap : ℕ → Bool
 badHeaderMap map = not (has 1 map) || less 7 map
 
 abbrev pub headerMapRefusal : Refusal
 headerMapRefusal = refusal Fault.HeaderMap 0
 
--- 3, variable count: 0 or above 128; told at 1
+-- 3, variable count: 0, or more than 128; told at 1
 unfoldable pub badVariableCount : ℕ → Bool
 badVariableCount n = same n 0 || less 128 n
 
 abbrev pub variableCountRefusal : Refusal
 variableCountRefusal = refusal Fault.VariableCount 1
 
--- 4, either other count: above 1,024; told at its high byte
+-- 4, record or question count: more than 1,024; told at its high byte
 unfoldable pub badCount : ℕ → Bool
 badCount count = less 1024 count
 
 abbrev pub countRefusal : Cursor → Refusal
 countRefusal field = refusal Fault.Count (field .at)
 
--- 5, record or question map: 0, a bit that the place does not define (4 to 7), or in a question more than one bit;
--- told at the map
+-- 5, item map: 0, with a bit that its place does not define, 4 to 7, or with several bits in a question; told at the map
 abbrev pub definedBits : Place → ℕ
 definedBits Place.Record = 15
 definedBits Place.Question = 15
@@ -71,21 +70,21 @@ badItemMap place map = same map 0 || (less (definedBits place) map || tooManyBit
 abbrev pub itemMapRefusal : Cursor → Refusal
 itemMapRefusal field = refusal Fault.ItemMap (field .at)
 
--- 6, variable field: not below n; told at that byte
+-- 6, variable: n or more; told at its byte
 unfoldable pub badVariable : ℕ → ℕ → Bool
 badVariable n variable = not (less variable n)
 
 abbrev pub variableRefusal : Cursor → Refusal
 variableRefusal field = refusal Fault.VariableRange (field .at)
 
--- 7, behind the last question: bytes remain; told at the first of them
+-- 7, behind the last question: something follows; told at its first byte
 unfoldable pub remain : List ℕ → Cursor → Bool
 remain s end = less (end .at) (length s)
 
 abbrev pub trailingRefusal : Cursor → Refusal
 trailingRefusal end = refusal Fault.Trailing (end .at)
 
--- 8, lent tables: either shorter than the table size; 9, reply buffer: shorter than the question count; both told at 0
+-- 8, a lent table: shorter than the table size; 9, the reply buffer: shorter than the question count; both told at 0
 abbrev pub tableRefusal : Refusal
 tableRefusal = refusal Fault.ShortTable 0
 

@@ -8,7 +8,7 @@ ghost use Rattle.sheet.specs.Fields.{word, byteField, wordField, variabl
 ghost use Rattle.sheet.specs.Refusals.{cut};
 ghost use Rattle.sheet.specs.Tests.{has};
 
-// A field of one byte, and where the next field starts.
+// A byte that was found, and where the next field starts.
 pub struct ByteField {
     pub value: u8,
     pub next: Cursor,
@@ -19,7 +19,7 @@ pub enum ByteRead {
     Refused(Refusal),
 }
 
-// A field of two bytes.
+// Two bytes that were found.
 pub struct WordField {
     pub value: u16,
     pub next: Cursor,
@@ -30,7 +30,7 @@ pub enum WordRead {
     Refused(Refusal),
 }
 
-// A field that names a variable.
+// A variable that was found.
 pub struct VariableField {
     pub value: Variable,
     pub next: Cursor,
@@ -68,6 +68,7 @@ pub fn cut_off(sheet: &[u8]) -> Refusal
     }
 }
 
+// A field of one byte.
 pub fn read_byte(sheet: &[u8], from: Cursor) -> ByteRead
     ensures { λ r. ⌜ r ≡ byteField (now (sheet .entry)) from ⌝ }
 {
@@ -81,6 +82,7 @@ pub fn read_byte(sheet: &[u8], from: Cursor) -> ByteRead
     })
 }
 
+// A field of two bytes.
 pub fn read_word(sheet: &[u8], from: Cursor) -> WordRead
     ensures { λ r. ⌜ r ≡ wordField (now (sheet .entry)) from ⌝ }
 {

@@ -1,5 +1,4 @@
 // The header: a map byte, then by rising bit the fields whose bit stands.
-use crate::fields::ByteField;
 use crate::fields::ByteRead;
 use crate::fields::WordField;
 use crate::fields::WordRead;
@@ -13,10 +12,12 @@ ghost use mathlib.Core.Path.{_≡_};
 ghost use Rattle.sheet.specs.Refusals.{badHeaderMap, badVariableCount};
 ghost use Rattle.sheet.specs.Headers.{headerMap, variableCount, countField, countIf, headerOf, tableSize};
 
+// The limits of the counts.
 pub const MOST_VARIABLES: u8 = 128;
 
 pub const MOST_ITEMS: u16 = 1024;
 
+// The fields of a header, and where the first record starts.
 pub struct Header {
     pub map: u8,
     pub variables: u8,
@@ -82,6 +83,7 @@ fn is_bad_variable_count(n: u8) -> bool
     MOST_VARIABLES < n
 }
 
+// The header's map, the first byte.
 fn read_header_map(sheet: &[u8]) -> ByteRead
     ensures { λ r. ⌜ r ≡ headerMap (now (sheet .entry)) ⌝ }
 {
@@ -100,6 +102,7 @@ fn read_header_map(sheet: &[u8]) -> ByteRead
     }
 }
 
+// The variable count, the second byte.
 fn read_variable_count(sheet: &[u8], from: Cursor) -> ByteRead
     ensures { λ r. ⌜ r ≡ variableCount (now (sheet .entry)) from ⌝ }
 {

@@ -1,9 +1,6 @@
 // Records and questions: one reader of an item, told its place.
-use crate::fields::ByteField;
 use crate::fields::ByteRead;
-use crate::fields::VariableField;
 use crate::fields::VariableRead;
-use crate::fields::WordField;
 use crate::fields::WordRead;
 use crate::fields::has_bit;
 use crate::fields::read_byte;
@@ -66,6 +63,7 @@ pub enum EndRead {
     Refused(Refusal),
 }
 
+// A map other than one bit alone.
 fn has_several_bits(map: u8) -> bool
     ensures { λ r. ⌜ r ≡ severalBits map ⌝ }
 {
@@ -81,7 +79,7 @@ fn has_several_bits(map: u8) -> bool
     map != 8
 }
 
-// The sum of the bits that a place defines.
+// The sum of the bits that a place defines: 0 to 3.
 fn defined_bits(place: Place) -> u8
     ensures { λ r. ⌜ r ≡ definedBits place ⌝ }
 {
@@ -107,6 +105,7 @@ fn is_bad_item_map(place: Place, map: u8) -> bool
     }
 }
 
+// An item's map.
 fn read_map(place: Place, sheet: &[u8], from: Cursor) -> ByteRead
     ensures { λ r. ⌜ r ≡ mapField place (now (sheet .entry)) from ⌝ }
 {

@@ -3,21 +3,21 @@ ghost use mathlib.Core.Path.{_≡_};
 ghost use Rattle.sheet.specs.Refusals.{numberOf};
 
 pub enum Fault {
-    // 1: the sheet ends inside a field or before one that is due; told at the sheet's length
+    // 1: a field that is due is missing or incomplete; told at the sheet's length
     Cut,
-    // 2: header map without bit 0, or with a bit that the header does not define; told at 0
+    // 2: header map without bit 0, or with one of bits 3 to 7; told at 0
     HeaderMap,
-    // 3: variable count 0 or above 128; told at 1
+    // 3: variable count 0, or more than 128; told at 1
     VariableCount,
-    // 4: record or question count above 1,024; told at its high byte
+    // 4: record or question count of more than 1,024; told at its high byte
     Count,
-    // 5: record or question map 0, any of bits 4 to 7, or in a question more than one bit; told at the map
+    // 5: item map 0, with one of bits 4 to 7, or with several bits in a question; told at the map
     ItemMap,
-    // 6: variable not below the variable count; told at that byte
+    // 6: variable n or more; told at its byte
     VariableRange,
-    // 7: bytes behind the last question; told at the first of them
+    // 7: something behind the last question; told at its first byte
     Trailing,
-    // 8: either lent table shorter than the table size; told at 0
+    // 8: a lent table shorter than the table size; told at 0
     ShortTable,
     // 9: reply buffer shorter than the question count; told at 0
     ShortReplies,
