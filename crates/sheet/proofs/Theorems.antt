@@ -9,7 +9,8 @@ use Rattle.sheet.specs.declared.numbers.Cursor.{Cursor}
 use Rattle.sheet.specs.declared.refusals.Refusal.{Refusal}
 use Rattle.sheet.specs.declared.whole.SheetRead.{SheetRead}
 use Rattle.sheet.specs.Items.{itemsOf}
-use Rattle.sheet.specs.Sheets.{Named, numberTold, readSheet, longest, sheetAt, sheetOf}
+use Rattle.sheet.specs.Sheets.{Named, readSheet, longest, sheetAt, sheetOf}
+use Rattle.sheet.specs.Told.{nothing, sheetTold}
 use Rattle.sheet.specs.Statements.{questionOf}
 use Rattle.sheet.proofs.Accepted.{Accepts, sheet-spans}
 use Rattle.sheet.proofs.Chains.{told}
@@ -42,5 +43,5 @@ pub refused-near : (s : List ℕ) (r : Refusal) → readSheet s ≡ SheetRead.Re
 refused-near s r e = told (sheet-spans s) e
 
 -- a sheet as long as the longest is accepted
-pub longest-is-reached : (s : List ℕ) × (length s ≡ longest) × (numberTold (readSheet s) ≡ 0)
+pub longest-is-reached : (s : List ℕ) × (length s ≡ longest) × (sheetTold (readSheet s) ≡ nothing)
 longest-is-reached = (longest-sheet, longest-length, rw (longest-accepted .1) refl)

@@ -10,22 +10,13 @@ use Rattle.sheet.specs.declared.refusals.Refusal.{Refusal}
 use Rattle.sheet.specs.declared.whole.SheetRead.{SheetRead}
 use Rattle.sheet.specs.Headers.{thenHeader, headerOf}
 use Rattle.sheet.specs.Items.{thenEnd, itemsEnd, itemsOf}
-use Rattle.sheet.specs.Refusals.{numberOf, remain, trailingRefusal}
+use Rattle.sheet.specs.Refusals.{remain, trailingRefusal}
 use Rattle.sheet.specs.Statements.{statementsOf, questionOf, AllName}
 use Rattle.sheet.specs.Tests.{pick}
 
 abbrev pub thenSheet : {A : Type 0} → SheetRead → (Refusal → A) → (Header → Cursor → A) → A
 thenSheet (SheetRead.Accepted h asked) refused next = next h asked
 thenSheet (SheetRead.Refused r) refused next = refused r
-
--- the number and the offset that are told of an answer: 0 at 0 where the sheet is accepted
-abbrev pub numberTold : SheetRead → ℕ
-numberTold (SheetRead.Accepted h asked) = 0
-numberTold (SheetRead.Refused r) = numberOf (r .fault)
-
-abbrev pub offsetTold : SheetRead → ℕ
-offsetTold (SheetRead.Accepted h asked) = 0
-offsetTold (SheetRead.Refused r) = r .at
 
 -- behind the header: as many records and as many questions as it says, then nothing
 unfoldable pub bodyOf : List ℕ → Header → SheetRead
