@@ -1,5 +1,6 @@
 -- Laws that belong to no one function, from tests up to the whole sheet.
 pub mod Choice
+pub mod Judged
 pub mod Chains
 pub mod Extents
 pub mod Lawful

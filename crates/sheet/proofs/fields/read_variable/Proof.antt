@@ -1,5 +1,6 @@
 -- A byte that is read is judged against n.
-use mathlib.Core.Path.{refl}
+use mathlib.Core.Bool.{not}
+use mathlib.Core.Path.{refl, ap}
 use Rattle.sheet.proofs.Choice.{chosen, passed, is-less, not-less}
 use Rattle.sheet.specs.Fields.{variableField}
 use Rattle.sheet.specs.Refusals.{badVariable}
@@ -27,13 +28,13 @@ returns-2 c =
       ← c .before .before .before .before .before .before .read-byte .ensures,
       c .before .before .before .before .field .given .1,
     )
-    (passed _ _ _ (rw (is-less _ _ (c .before .if1 .taken))) refl)
+    (passed _ _ _ (ap not (is-less _ _ (c .before .if1 .taken))) refl)
 
 returns-3 : tie.Need-returns-3
 unfolding variableField badVariable
 returns-3 c =
     rw (← c .before .before .before .before .before .read-byte .ensures, c .before .before .before .field .given .1)
-    (chosen _ _ _ (rw (not-less _ _ (c .if1 .left))) refl)
+    (chosen _ _ _ (ap not (not-less _ _ (c .if1 .left))) refl)
 
 pub read-variable-spec : {M : Type 1} → statement M
 read-variable-spec =

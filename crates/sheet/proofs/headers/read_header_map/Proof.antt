@@ -1,6 +1,7 @@
 -- A byte that is read is judged.
-use mathlib.Core.Path.{refl}
-use Rattle.sheet.proofs.Choice.{chosen, passed}
+use mathlib.Core.Path.{sym, _∙_}
+use Rattle.sheet.proofs.Judged.{missing-byte, bad-byte, good-byte}
+use Rattle.sheet.specs.Refusals.{badHeaderMap, headerMapRefusal}
 use Rattle.sheet.specs.Headers.{headerMap}
 use borrow.Author.Needs.{needs}
 use Rattle.sheet.proofs.headers.read_header_map.Statement.{statement}
@@ -20,21 +21,23 @@ is-bad-header-map-requires c κs = search needs
 
 returns : tie.Need-returns
 unfolding headerMap
-returns c = rw (← c .before .before .before .read-byte .ensures, c .before .refusal .given .1) refl
+returns c =
+    missing-byte badHeaderMap headerMapRefusal (c .before .before .before .read-byte .ensures)
+    (c .before .refusal .given .1)
 
 returns-2 : tie.Need-returns-2
 unfolding headerMap
 returns-2 c =
-    rw (← c .before .before .before .before .before .read-byte .ensures, c .before .before .before .field .given .1)
-    (chosen _ _ _ (rw (← c .before .is-bad-header-map .ensures)
-    (c .if1 .taken)) refl)
+    bad-byte badHeaderMap headerMapRefusal (c .before .before .before .before .before .read-byte .ensures)
+    (c .before .before .before .field .given .1)
+    (sym (c .before .is-bad-header-map .ensures) ∙ c .if1 .taken)
 
 returns-3 : tie.Need-returns-3
 unfolding headerMap
 returns-3 c =
-    rw (← c .before .before .before .before .before .read-byte .ensures, c .before .before .before .field .given .1)
-    (passed _ _ _ (rw (← c .before .is-bad-header-map .ensures)
-    (c .if1 .left)) refl)
+    good-byte badHeaderMap headerMapRefusal (c .before .before .before .before .before .read-byte .ensures)
+    (c .before .before .before .field .given .1)
+    (sym (c .before .is-bad-header-map .ensures) ∙ c .if1 .left)
 
 pub read-header-map-spec : {M : Type 1} → statement M
 read-header-map-spec =

@@ -8,28 +8,28 @@ use Rattle.sheet.proofs.items.has_several_bits.Tie as tie
 
 returns : tie.Need-returns
 unfolding severalBits
-returns c = sym (rw (is-same _ _ (c .if1 .taken)))
+returns c = sym (rw (is-same _ 1 (c .if1 .taken)))
 
 returns-2 : tie.Need-returns-2
 unfolding severalBits
-returns-2 c = sym (rw (not-same _ _ (c .before .if1 .left), is-same _ _ (c .if2 .taken)))
+returns-2 c = sym (rw (not-same _ 1 (c .before .if1 .left), is-same _ 2 (c .if2 .taken)))
 
 returns-3 : tie.Need-returns-3
 unfolding severalBits
 returns-3 c =
     sym (rw (
-      not-same _ _ (c .before .before .if1 .left),
-      not-same _ _ (c .before .if2 .left),
-      is-same _ _ (c .if3 .taken),
+      not-same _ 1 (c .before .before .if1 .left),
+      not-same _ 2 (c .before .if2 .left),
+      is-same _ 4 (c .if3 .taken),
     ))
 
 returns-4 : tie.Need-returns-4
 unfolding severalBits same
 returns-4 c =
     sym (rw (
-      not-same _ _ (c .before .before .if1 .left),
-      not-same _ _ (c .before .if2 .left),
-      not-same _ _ (c .if3 .left),
+      not-same _ 1 (c .before .before .if1 .left),
+      not-same _ 2 (c .before .if2 .left),
+      not-same _ 4 (c .if3 .left),
     ))
 
 pub has-several-bits-spec : {M : Type 1} → statement M
