@@ -1,12 +1,14 @@
 // Numbers in a text.
-ghost use Prim.Native.Nat.{_≤_};
+ghost use Prim.Native.Nat.{_≤_, min};
 ghost use lib.ListN.{length};
 
 // Where the text has this byte next, or its end.
 pub fn end_of(text: &[u8], from: usize, stop: u8) -> usize
-    requires { ⌜ from ≤ length (now text) ⌝ }
-    ensures { λ r. ⌜ (from ≤ r) × (r ≤ length (now (text .entry))) ⌝ }
+    ensures { λ r. ⌜ (min from (length (now (text .entry))) ≤ r) × (r ≤ length (now (text .entry))) ⌝ }
 {
+    if text.len() < from {
+        return text.len();
+    }
     let mut i = from;
     while i < text.len() {
         if text[i] == stop {
