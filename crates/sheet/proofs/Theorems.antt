@@ -1,7 +1,7 @@
 -- What the engine and the theory rest on, of every list of bytes.
 use Prim.Native.Nat.{ℕ, _≤_}
 use mathlib.Core.List.{List}
-use mathlib.Core.Path.{_≡_, refl, _∙_}
+use mathlib.Core.Path.{_≡_, refl, subst, _∙_}
 use lib.ListN.{length, length-map}
 use Rattle.sheet.specs.declared.headers.Header.{Header}
 use Rattle.sheet.specs.declared.items.Place.{Place}
@@ -26,6 +26,14 @@ module _ (s : List ℕ) (h : Header) (asked : Cursor) (e : readSheet s ≡ Sheet
   -- where it is accepted, header, records and questions are read to its end, so that none is refused when read again
   pub accepted-read : Accepts s h asked
   accepted-read = told (sheet-spans s) e
+
+  -- its sheet is the one that its header and the offset of its questions give, and that names variables below n
+  pub accepted-sheet : sheetOf s ≡ sheetAt s h asked
+  unfolding sheetOf
+  accepted-sheet = rw e refl
+
+  pub accepted-names : Named (sheetAt s h asked)
+  accepted-names = subst Named accepted-sheet (names-below s)
 
   -- it is no longer than the longest
   pub accepted-short : length s ≤ longest

@@ -40,6 +40,10 @@ Names n (Statement.Compatibility i j) = (i .0 < n) × (j .0 < n)
 Names n (Statement.Selection i f j) = (i .0 < n) × (j .0 < n)
 Names n (Statement.Labelling i a) = i .0 < n
 
+-- each statement of a list has a property
+abbrev pub All : (Statement → Type 0) → List Statement → Type 0
+All P [] = Unit {0}
+All P (x ∷ xs) = P x × All P xs
+
 abbrev pub AllName : ℕ → List Statement → Type 0
-AllName n [] = Unit {0}
-AllName n (x ∷ xs) = Names n x × AllName n xs
+AllName n xs = All (Names n) xs
