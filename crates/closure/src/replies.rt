@@ -1,0 +1,6 @@
+// The answer to a question of a consistent sheet.
+pub enum Reply {
+    Always,
+    Never,
+    Open,
+}
