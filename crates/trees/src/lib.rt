@@ -1,0 +1,1 @@
+// No code: feature trees, what the answers mean of them, and the proofs.
