@@ -24,7 +24,8 @@ unfolding table worked countsOf labelsFrom _and_ _or_ Tests.less Tests.same Test
     Headers.headerMap Headers.variableCount Headers.countField Headers.countIf Headers.headerOf
     Items.mapField Items.fieldsAt Items.itemAt Items.itemsEnd Items.itemsOf
     Statements.statementsOf Statements.questionOf Sheets.bodyOf Sheets.readSheet Sheets.sheetAt Sheets.sheetOf
-    Stated.any Stated.anyBelow Stated.someOrdering Stated.someCompatibility Stated.someSelection Stated.someLabelling
+    Stated.any Stated.anyBelow Stated.firstLabel
+    Stated.someOrdering Stated.someCompatibility Stated.someSelection Stated.someLabelling
     Tables.says Tables.cellOf Tables.cellAt Tables.facts Tables.rowOf Tables.rowsOf Tables.tableOf
     Tables.countPassing Tables.countRow Tables.countRows Tables.countFacts
     Derived.isStated Derived.passes Derived.turns Derived.descends Derived.round Derived.rounds Derived.derived

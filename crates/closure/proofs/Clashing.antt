@@ -17,7 +17,7 @@ use Rattle.closure.specs.Derived.{factsOf}
 use Rattle.closure.specs.Clashes.{labelsDiffer, clashesAt, clashInRow, orElse, clashInRows, clashOf, isClash}
 use Rattle.closure.specs.Clashes.{clashes}
 use Rattle.closure.specs.Demand.{LeastClash, NoClash}
-use Rattle.closure.proofs.Logic.{both, first-of, second-of, decided, contrary}
+use Rattle.closure.proofs.Logic.{both, first-of, second-of, decided, contrary, last-or-before}
 use Rattle.closure.proofs.Some.{by-labelling, one-labelling}
 
 -- two labels that differ, stated of i and of j
@@ -39,8 +39,7 @@ differ-of st i j p next =
 
 -- what holds below m and at m holds up to m
 up-to : (P : ℕ → Type 0) (m : ℕ) → ((x : ℕ) → x < m → P x) → P m → (x : ℕ) → x < suc m → P x
-up-to P m below at x h =
-    decided (same x m) (λ e. rw (same-true x m e) at) (λ e. let other = same-false x m e in below x (omega arith))
+up-to P m below at x h = last-or-before x m h (λ e. rw e at) (below x)
 
 -- F5 applies to no pair of row i
 abbrev Clear : ℕ → List Statement → Relation → ℕ → Type 0

@@ -4,11 +4,11 @@ use mathlib.Core.Bool.{Bool, true, false}
 use mathlib.Core.Path.{_≡_, refl, ap}
 use native.Mathlib.Nat.{suc-mul}
 use native.Mathlib.Omega.{arith}
-use Rattle.sheet.specs.Tests.{same, pick}
-use Rattle.sheet.proofs.Choice.{same-true, same-false, pick-most}
+use Rattle.sheet.specs.Tests.{pick}
+use Rattle.sheet.proofs.Choice.{pick-most}
 use Rattle.closure.specs.Facts.{Kind, Relation, Holds, Within}
 use Rattle.closure.specs.Tables.{countPassing, countRow, countRows, countFacts}
-use Rattle.closure.proofs.Logic.{decided}
+use Rattle.closure.proofs.Logic.{last-or-before}
 
 -- sums of as many terms: by larger terms, by terms that sum to no more, and by a bound
 sum : ℕ → (ℕ → ℕ) → ℕ
@@ -26,8 +26,7 @@ sum-back zero f g h s i b = absurd (omega arith)
 sum-back (suc m) f g h s i b =
     let last = h m (omega arith) in
     let before = sum-most m f g (λ k c. h k (omega arith)) in
-    decided (same i m) (λ e. rw (same-true i m e) (omega arith))
-    (λ e. let other = same-false i m e in sum-back m f g (λ k c. h k (omega arith)) (omega arith) i (omega arith))
+    last-or-before i m b (λ e. rw e (omega arith)) (sum-back m f g (λ k c. h k (omega arith)) (omega arith) i)
 
 sum-bound : (m b : ℕ) (f : ℕ → ℕ) → ((i : ℕ) → i < m → f i ≤ b) → sum m f ≤ m * b
 unfolding sum

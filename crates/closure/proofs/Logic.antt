@@ -1,6 +1,10 @@
--- Tests joined by 'and' and 'or', and their parts.
+-- Tests joined by 'and' and 'or', their parts, and cases by a test.
+use Prim.Native.Nat.{ℕ, suc, _<_}
 use mathlib.Core.Bool.{Bool, true, false, true≢false, false≢true}
 use mathlib.Core.Path.{_≡_, refl, sym, _∙_}
+use native.Mathlib.Omega.{arith}
+use Rattle.sheet.specs.Tests.{same}
+use Rattle.sheet.proofs.Choice.{same-true, same-false}
 use Rattle.closure.specs.Connectives.{_and_, _or_}
 
 pub both : {a b : Bool} → a ≡ true → b ≡ true → a and b ≡ true
@@ -49,3 +53,8 @@ pub same-tests : (a b : Bool) → (a ≡ true → b ≡ true) → (b ≡ true �
 same-tests true b f g = sym (f refl)
 same-tests false true f g = g refl
 same-tests false false f g = refl
+
+-- a number below suc m is m or below m
+pub last-or-before : {C : Type 0} (x m : ℕ) → x < suc m → (x ≡ m → C) → (x < m → C) → C
+last-or-before x m h last before =
+    decided (same x m) (λ e. last (same-true x m e)) (λ e. let other = same-false x m e in before (omega arith))

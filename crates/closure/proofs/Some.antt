@@ -6,12 +6,13 @@ use mathlib.Core.Path.{_≡_, refl, ap, sym, subst, _∙_}
 use native.Mathlib.Omega.{arith}
 use Rattle.sheet.specs.declared.items.Statement.{Statement}
 use Rattle.sheet.specs.Tests.{same}
-use Rattle.sheet.proofs.Choice.{is-same, same-true, same-false}
+use Rattle.sheet.proofs.Choice.{is-same, same-true}
 use Rattle.closure.specs.Connectives.{_and_}
 use Rattle.closure.specs.Stated.{ordering, compatibility, selection, labelling, Stated, any, anyBelow, ifOrdering}
 use Rattle.closure.specs.Stated.{ifCompatibility, ifSelection, ifLabelling, someOrdering, someCompatibility}
 use Rattle.closure.specs.Stated.{someSelection, someLabelling}
-use Rattle.closure.proofs.Logic.{both, first-of, second-of, either-first, either-second, either-of, decided}
+use Rattle.closure.proofs.Logic.{both, first-of, second-of, either-first, either-second, either-of}
+use Rattle.closure.proofs.Logic.{last-or-before}
 
 pub any-by : {A : Type 0} (test : A → Bool) {x : A} (xs : List A) → List·Memᴰ x xs → test x ≡ true → any test xs ≡ true
 unfolding any
@@ -30,8 +31,7 @@ pub below-by : (test : ℕ → Bool) (m i : ℕ) → i < m → test i ≡ true �
 unfolding anyBelow
 below-by test zero i h p = absurd (omega arith)
 below-by test (suc m) i h p =
-    decided (same i m) (λ e. either-first _ (ap test (sym (same-true i m e)) ∙ p))
-    (λ e. let other = same-false i m e in either-second _ (below-by test m i (omega arith) p))
+    last-or-before i m h (λ e. either-first _ (ap test (sym e) ∙ p)) (λ b. either-second _ (below-by test m i b p))
 
 pub below-one : {C : Type 0} (m : ℕ) (test : ℕ → Bool) → anyBelow m test ≡ true
     → ((i : ℕ) → i < m → test i ≡ true → C) → C

@@ -35,10 +35,13 @@ round st n r kind i j =
     r kind i j or same i j or isStated st kind i j
     or passes n r kind i j or turns r kind i j or descends st r kind i j
 
--- the table after some rounds
+-- the table after one round, and after some
+abbrev pub nextTable : List Statement → ℕ → List ℕ → List ℕ
+nextTable st n t = tableOf n (round st n (facts n t))
+
 unfoldable pub rounds : ℕ → List Statement → ℕ → List ℕ → List ℕ
 rounds zero st n t = t
-rounds (suc more) st n t = rounds more st n (tableOf n (round st n (facts n t)))
+rounds (suc more) st n t = rounds more st n (nextTable st n t)
 
 -- there are at most two times n × n facts, and a round adds one as long as one is missing
 unfoldable pub derived : List Statement → ℕ → List ℕ

@@ -2,11 +2,12 @@
 use Prim.Native.Nat.{ℕ}
 use mathlib.Core.Bool.{Bool}
 use mathlib.Core.List.{List, [], _∷_, _++_, map}
-use mathlib.Core.Option.{Option, none, some}
+use mathlib.Core.Option.{Option}
 use Rattle.sheet.specs.declared.items.Statement.{Statement}
 use Rattle.sheet.specs.Sheets.{Sheet}
 use Rattle.sheet.specs.Tests.{same, pick}
 use Rattle.closure.specs.declared.replies.Reply.{Reply}
+use Rattle.closure.specs.Stated.{firstLabel}
 use Rattle.closure.specs.Derived.{factsOf}
 use Rattle.closure.specs.Clashes.{clashes}
 use Rattle.closure.specs.Support.{supported}
@@ -35,10 +36,6 @@ replyNumber Reply.Always = 0
 replyNumber Reply.Never = 1
 replyNumber Reply.Open = 2
 
--- the label stated for i, the first where there are more, none where it has none
+-- the label stated for i, the first where there are more
 unfoldable pub statedLabel : List Statement → ℕ → Option ℕ
-statedLabel [] i = none
-statedLabel (Statement.Ordering x y ∷ st) i = statedLabel st i
-statedLabel (Statement.Compatibility x y ∷ st) i = statedLabel st i
-statedLabel (Statement.Selection x f y ∷ st) i = statedLabel st i
-statedLabel (Statement.Labelling x a ∷ st) i = pick (same i (x .0)) (some (a .0)) (statedLabel st i)
+statedLabel st i = firstLabel st (λ x. same i x)

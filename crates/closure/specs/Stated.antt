@@ -2,8 +2,10 @@
 use Prim.Native.Nat.{ℕ, zero, suc}
 use mathlib.Core.Bool.{Bool, false}
 use mathlib.Core.List.{List, [], _∷_, List·Memᴰ}
+use mathlib.Core.Option.{Option, none, some}
 use Rattle.sheet.specs.declared.items.Statement.{Statement}
 use Rattle.sheet.specs.Fields.{variable, feature, label}
+use Rattle.sheet.specs.Tests.{pick}
 use Rattle.closure.specs.Connectives.{_or_}
 
 -- i ≤ j
@@ -73,3 +75,11 @@ someSelection st test = any (ifSelection test) st
 
 unfoldable pub someLabelling : List Statement → (ℕ → ℕ → Bool) → Bool
 someLabelling st test = any (ifLabelling test) st
+
+-- the first label whose subject passes, if there is one
+unfoldable pub firstLabel : List Statement → (ℕ → Bool) → Option ℕ
+firstLabel [] test = none
+firstLabel (Statement.Ordering i j ∷ st) test = firstLabel st test
+firstLabel (Statement.Compatibility i j ∷ st) test = firstLabel st test
+firstLabel (Statement.Selection i f j ∷ st) test = firstLabel st test
+firstLabel (Statement.Labelling i a ∷ st) test = pick (test (i .0)) (some (a .0)) (firstLabel st test)

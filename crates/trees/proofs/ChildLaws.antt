@@ -103,15 +103,13 @@ module _ {n : ℕ} {st : List Statement} {r : Relation} (L : Laws n st r) (i f :
   child-of s = named n st (L .fit) s .1
 
   -- only variables are related to the new one
-  Apart : ℕ → ℕ → Type 0
+  abbrev Apart : ℕ → ℕ → Type 0
   Apart x y = (x ≡ y) ⊎ ((x < suc n) × (y < suc n))
 
   old-new : (x y : ℕ) → x < n → y ≡ n → Apart x y
-  unfolding Apart
   old-new x y h e = inr (omega arith, omega arith)
 
   new-old : (x y : ℕ) → y < n → x ≡ n → Apart x y
-  unfolding Apart
   new-old x y h e = inr (omega arith, omega arith)
 
   compatible-old : (x : ℕ) → compatibleChild st r i f x ≡ true → x < n
@@ -120,7 +118,6 @@ module _ {n : ℕ} {st : List Statement} {r : Relation} (L : Laws n st r) (i f :
       (λ k m s h l. right-variable L compatible l (child-of s)) (λ k m s h l. left-variable L ordered l (child-of s))
 
   between-apart : (kind : Kind) (a b : Bool) (x y : ℕ) → same x n ≡ a → same y n ≡ b → Between kind a b x y → Apart x y
-  unfolding Apart
   between-apart kind false false x y d e p =
       ⊎-elim (λ q. inl q) (λ q. inr (omega (arith, q .0), omega (arith, q .1))) (L .apart kind x y p)
   between-apart kind true true x y d e p = inl (same-true x n d ∙ sym (same-true y n e))
@@ -146,8 +143,8 @@ module _ {n : ℕ} {st : List Statement} {r : Relation} (L : Laws n st r) (i f :
   unfolding withChild
   more-turned x y p = between-turned (same x n) (same y n) x y p
 
-  more-apart : (kind : Kind) (x y : ℕ) → Holds more kind x y → (x ≡ y) ⊎ ((x < suc n) × (y < suc n))
-  unfolding withChild Apart
+  more-apart : (kind : Kind) (x y : ℕ) → Holds more kind x y → Apart x y
+  unfolding withChild
   more-apart kind x y p = between-apart kind (same x n) (same y n) x y refl refl p
 
   -- F2 and F4: of the new child and an old one

@@ -52,14 +52,14 @@ module _ (s : Sheet) (fit : AllName (s .n) (s .stated)) (consistent : fails s �
       refuted _ (λ p. none (replied s q .always .1 (related-supported (s .n) (s .stated) fit q h p)))
 
   -- one structure extended against the whole list
-  pub against : (qs : List Statement) → AllName (s .n) qs → NoneAlways s qs
+  pub refutation : (qs : List Statement) → AllName (s .n) qs → NoneAlways s qs
       → Refutation (s .n) (s .stated) (related (s .n) (s .stated) fit) qs
-  against qs h none =
+  refutation qs h none =
       refute (derived-laws (s .n) (s .stated) fit consistent) qs h (none-supported qs h none)
 
   -- its least solution meets the sheet and breaks them all
   pub one-against-all : (qs : List Statement) → AllName (s .n) qs → NoneAlways s qs
       → Some s λ v. BreaksAll v qs
   one-against-all qs h none =
-      let R = against qs h none in
+      let R = refutation qs h none in
       (refuting R, (record { trees = λ i b. refuting-trees R i; kept = refuting-meets R }, R .breaks-all))

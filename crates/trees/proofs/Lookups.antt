@@ -1,14 +1,15 @@
--- What is stated of the variables that pass a test: their children at a feature, and their first label.
+-- The children of the variables that pass a test, and the node that a label makes.
 use Prim.Native.Nat.{ℕ}
 use mathlib.Core.Bool.{Bool, true, false}
 use mathlib.Core.List.{List, [], _∷_, List·Memᴰ, List·Memᴰ·head, List·Memᴰ·tail}
-use mathlib.Core.Path.{_≡_, refl, sym, ap, ap₂, subst, _∙_}
+use mathlib.Core.Option.{Option, none, some}
+use mathlib.Core.Path.{_≡_, refl, ap, ap₂, subst}
 use Rattle.sheet.specs.declared.items.Statement.{Statement}
 use Rattle.sheet.specs.Tests.{same, pick}
-use Rattle.sheet.proofs.Choice.{is-same, same-true, chosen, passed}
-use Rattle.closure.specs.Stated.{selection, labelling, Stated}
+use Rattle.sheet.proofs.Choice.{is-same, same-true}
+use Rattle.closure.specs.Stated.{selection, Stated}
 use Rattle.closure.specs.Connectives.{_and_}
-use Rattle.closure.proofs.Logic.{both, first-of, second-of, decided}
+use Rattle.closure.proofs.Logic.{both, first-of, second-of}
 use Rattle.trees.specs.Trees.{Node, bare, labelled, Present}
 use Rattle.trees.proofs.Nodes.{bare-unlabelled, label-of}
 
@@ -21,13 +22,18 @@ childrenAt f test (Statement.Selection i g j ∷ st) =
     pick (same f (g .0) and test (i .0)) (j .0 ∷ childrenAt f test st) (childrenAt f test st)
 childrenAt f test (Statement.Labelling i a ∷ st) = childrenAt f test st
 
--- the first label whose subject passes a test
-unfoldable pub labelIf : (ℕ → Bool) → List Statement → Node
-labelIf test [] = bare
-labelIf test (Statement.Ordering i j ∷ st) = labelIf test st
-labelIf test (Statement.Compatibility i j ∷ st) = labelIf test st
-labelIf test (Statement.Selection i f j ∷ st) = labelIf test st
-labelIf test (Statement.Labelling i a ∷ st) = pick (test (i .0)) (labelled (a .0)) (labelIf test st)
+-- a node by the label that is found for it
+abbrev pub nodeOf : Option ℕ → Node
+nodeOf none = bare
+nodeOf (some a) = labelled a
+
+pub node-present : (x : Option ℕ) → Present (nodeOf x)
+node-present none = tt
+node-present (some a) = tt
+
+pub node-label : {a : ℕ} (x : Option ℕ) → nodeOf x ≡ labelled a → x ≡ some a
+node-label none e = absurd (bare-unlabelled e)
+node-label (some b) e = ap {B = Option ℕ} some (label-of e)
 
 -- a member of what a choice adds to a list
 pub in-choice : {A : Type 0} {C : Type 0} (b : Bool) {x y : A} {xs : List A} → List·Memᴰ x (pick b (y ∷ xs) xs)
@@ -46,17 +52,6 @@ pub others-in : {A : Type 0} (b : Bool) {x : A} (y : A) {xs : List A} → List·
 unfolding pick
 others-in true y m = List·Memᴰ·tail m
 others-in false y m = m
-
-present-choice : (b : Bool) (a : ℕ) (x : Node) → Present x → Present (pick b (labelled a) x)
-unfolding pick
-present-choice true a x h = tt
-present-choice false a x h = h
-
-label-choice : {C : Type 0} (b : Bool) {a : ℕ} (c : ℕ) (x : Node) → pick b (labelled c) x ≡ labelled a
-    → (b ≡ true → c ≡ a → C) → (x ≡ labelled a → C) → C
-unfolding pick
-label-choice true c x e here there = here refl (label-of e)
-label-choice false c x e here there = there e
 
 module _ (f : ℕ) (test : ℕ → Bool) where
   -- a child comes from a selection at f whose subject passes
@@ -83,40 +78,3 @@ module _ (f : ℕ) (test : ℕ → Bool) where
   child-in (Statement.Compatibility i j ∷ st) (List·Memᴰ·tail s) p = child-in st s p
   child-in (Statement.Selection i g j ∷ st) (List·Memᴰ·tail s) p = others-in _ _ (child-in st s p)
   child-in (Statement.Labelling i a ∷ st) (List·Memᴰ·tail s) p = child-in st s p
-
-module _ (test : ℕ → Bool) where
-  -- a root is never absent for want of a label
-  pub label-present : (st : List Statement) → Present (labelIf test st)
-  unfolding labelIf
-  label-present [] = tt
-  label-present (Statement.Ordering i j ∷ st) = label-present st
-  label-present (Statement.Compatibility i j ∷ st) = label-present st
-  label-present (Statement.Selection i f j ∷ st) = label-present st
-  label-present (Statement.Labelling i a ∷ st) =
-      present-choice (test (i .0)) (a .0) (labelIf test st) (label-present st)
-
-  -- the label is one that is stated of a subject that passes
-  pub label-from : {C : Type 0} {a : ℕ} (st : List Statement) → labelIf test st ≡ labelled a
-      → ((k : ℕ) → Stated st (labelling k a) → test k ≡ true → C) → C
-  unfolding labelIf
-  label-from [] e next = absurd (bare-unlabelled e)
-  label-from (Statement.Ordering i j ∷ st) e next = label-from st e (λ k s. next k (List·Memᴰ·tail s))
-  label-from (Statement.Compatibility i j ∷ st) e next = label-from st e (λ k s. next k (List·Memᴰ·tail s))
-  label-from (Statement.Selection i f j ∷ st) e next = label-from st e (λ k s. next k (List·Memᴰ·tail s))
-  label-from (Statement.Labelling i b ∷ st) e next =
-      label-choice (test (i .0)) (b .0) (labelIf test st) e
-      (λ p same-label. next (i .0) (List·Memᴰ·head (ap (labelling (i .0)) (sym same-label))) p)
-      (λ d. label-from st d (λ k s. next k (List·Memᴰ·tail s)))
-
-  -- where one is stated there is one
-  pub label-found : {C : Type 0} {k a : ℕ} (st : List Statement) → Stated st (labelling k a) → test k ≡ true
-      → ((b : ℕ) → labelIf test st ≡ labelled b → C) → C
-  unfolding labelIf
-  label-found {C} {k} {a} (x ∷ st) (List·Memᴰ·head e) p next =
-      next a (subst (λ y. labelIf test (y ∷ st) ≡ labelled a) e (sym (chosen (test k) _ _ p refl)))
-  label-found (Statement.Ordering i j ∷ st) (List·Memᴰ·tail s) p next = label-found st s p next
-  label-found (Statement.Compatibility i j ∷ st) (List·Memᴰ·tail s) p next = label-found st s p next
-  label-found (Statement.Selection i f j ∷ st) (List·Memᴰ·tail s) p next = label-found st s p next
-  label-found (Statement.Labelling i b ∷ st) (List·Memᴰ·tail s) p next =
-      decided (test (i .0)) (λ q. next (b .0) (sym (chosen (test (i .0)) _ _ q refl)))
-      (λ q. label-found st s p (λ c d. next c (sym (passed (test (i .0)) _ _ q refl) ∙ d)))

@@ -4,16 +4,15 @@ use Prim.Native.Nat.{ℕ, zero, suc, _+_, _≤_, _<_, max}
 use mathlib.Core.Bool.{false, not}
 use mathlib.Core.List.{List, [], _∷_, _++_, List·Memᴰ·head, List·Memᴰ·tail, List·Memᴰ·append-cases, Memᴰ·append-left}
 use mathlib.Core.List.{Memᴰ·append-right}
-use mathlib.Core.Logic.{_⊎_, inl, inr, ⊎-elim}
+use mathlib.Core.Logic.{_⊎_, ⊎-elim}
 use mathlib.Core.Path.{_≡_, refl, sym, ap, subst}
 use borrow.Author.Tests.{not-true}
 use native.Mathlib.Omega.{arith}
 use Rattle.sheet.specs.declared.items.Statement.{Statement}
-use Rattle.sheet.specs.Tests.{same, pick}
-use Rattle.sheet.proofs.Choice.{same-true, same-false}
+use Rattle.sheet.specs.Tests.{pick}
 use Rattle.closure.specs.Facts.{compatible, Relation}
 use Rattle.closure.specs.Stated.{selection, labelling, Stated}
-use Rattle.closure.proofs.Logic.{decided}
+use Rattle.closure.proofs.Logic.{last-or-before}
 use Rattle.trees.proofs.Structures.{same-selection, same-labelling, IsSelection, is-selection, is-labelling}
 use Rattle.trees.proofs.Lookups.{in-choice, chosen-in, others-in}
 
@@ -31,10 +30,6 @@ unused-above (Statement.Ordering i j ∷ st) (List·Memᴰ·tail s) = unused-abo
 unused-above (Statement.Compatibility i j ∷ st) (List·Memᴰ·tail s) = unused-above st s
 unused-above (Statement.Selection i f j ∷ st) (List·Memᴰ·tail s) = let rest = unused-above st s in omega arith
 unused-above (Statement.Labelling i a ∷ st) (List·Memᴰ·tail s) = unused-above st s
-
-last-or-before : (x m : ℕ) → x < suc m → (x ≡ m) ⊎ (x < m)
-last-or-before x m h =
-    decided (same x m) (λ e. inl (same-true x m e)) (λ e. let other = same-false x m e in inr (omega arith))
 
 -- the feature of x
 abbrev pub markOf : List Statement → ℕ → ℕ
@@ -81,20 +76,18 @@ module _ (n : ℕ) (st : List Statement) (r : Relation) where
       → Stated (marksAgainst x m) (selection y (markOf st x) (suc n))
   unfolding marksAgainst
   against-mark x y (suc z) h e =
-      ⊎-elim
-      (λ same-one. subst (λ w. Stated (marksAgainst x (suc w)) (selection y (markOf st x) (suc n))) same-one
+      last-or-before y z h
+      (λ last. subst (λ w. Stated (marksAgainst x (suc w)) (selection y (markOf st x) (suc n))) last
       (chosen-in _ _ _ (ap not e)))
-      (λ less-one. others-in _ _ (against-mark x y z less-one e))
-      (last-or-before y z h)
+      (λ before. others-in _ _ (against-mark x y z before e))
 
   mark-in : {z : Statement} (x m : ℕ) → x < m
       → Stated (selection x (markOf st x) n ∷ marksAgainst x n) z → Stated (marks m) z
   unfolding marks
   mark-in {z} x (suc m) h s =
-      ⊎-elim
-      (λ same-one. subst (λ w. Stated (marks (suc w)) z) same-one (Memᴰ·append-left (marks x) s))
-      (λ less-one. List·Memᴰ·tail (Memᴰ·append-right (marksAgainst m n) (mark-in x m less-one s)))
-      (last-or-before x m h)
+      last-or-before x m h
+      (λ last. subst (λ w. Stated (marks (suc w)) z) last (Memᴰ·append-left (marks x) s))
+      (λ before. List·Memᴰ·tail (Memᴰ·append-right (marksAgainst m n) (mark-in x m before s)))
 
   -- a statement of the marked list
   pub from-marked : {C : Type 0} {z : Statement} → Stated marked z

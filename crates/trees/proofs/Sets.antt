@@ -2,17 +2,18 @@
 use Prim.Native.Nat.{ℕ}
 use mathlib.Core.Bool.{Bool, true, false≢true}
 use mathlib.Core.List.{List, [], _∷_, List·Memᴰ·head, List·Memᴰ·eq-of-singleton}
-use mathlib.Core.Path.{_≡_, refl, subst}
+use mathlib.Core.Option.{Option}
+use mathlib.Core.Path.{_≡_, refl, ap, subst}
 use Rattle.sheet.specs.declared.items.Statement.{Statement}
 use Rattle.closure.specs.Facts.{ordered, compatible, Relation, Holds}
-use Rattle.closure.specs.Stated.{selection, labelling, Stated, any}
+use Rattle.closure.specs.Stated.{selection, labelling, Stated, any, firstLabel}
 use Rattle.closure.proofs.Some.{any-by, any-one}
+use Rattle.closure.proofs.Labels.{first-from, first-found}
 use Rattle.trees.specs.Trees.{Node, absent, labelled, Present, Path}
 use Rattle.trees.specs.Assignments.{Assignment}
 use Rattle.trees.proofs.Structures.{one-label, Laws}
 use Rattle.trees.proofs.Nodes.{present-label}
-use Rattle.trees.proofs.Lookups.{childrenAt, labelIf, child-from, child-in, label-present, label-from}
-use Rattle.trees.proofs.Lookups.{label-found}
+use Rattle.trees.proofs.Lookups.{childrenAt, nodeOf, child-from, child-in, node-present, node-label}
 
 module _ (st : List Statement) (r : Relation) where
   -- k is in the set
@@ -26,10 +27,14 @@ module _ (st : List Statement) (r : Relation) where
   unfoldable pub step : ℕ → List ℕ → List ℕ
   step f set = childrenAt f (λ k. under k set) st
 
-  -- without a generator nothing; else the first label stated in the set, or a bare node
+  -- the first label stated in the set
+  abbrev pub labelOf : List ℕ → Option ℕ
+  labelOf set = firstLabel st (λ k. under k set)
+
+  -- without a generator nothing, else a node with that label or bare
   abbrev pub rootOf : List ℕ → Node
   rootOf [] = absent
-  rootOf (g ∷ set) = labelIf (λ k. under k (g ∷ set)) st
+  rootOf (g ∷ set) = nodeOf (labelOf (g ∷ set))
 
   -- what the set's tree has at a path
   abbrev pub walk : Path → List ℕ → Node
@@ -80,7 +85,7 @@ module _ {n : ℕ} {st : List Statement} {r : Relation} (L : Laws n st r) where
 
   pub in-root : {k : ℕ} (set : List ℕ) → In st r k set → Present (rootOf st r set)
   in-root [] u = absurd (empty-in u)
-  in-root (g ∷ set) u = label-present _ st
+  in-root (g ∷ set) u = node-present (labelOf st r (g ∷ set))
 
   pub root-in : {C : Type 0} (set : List ℕ) → Present (rootOf st r set) → ((k : ℕ) → In st r k set → C) → C
   root-in [] h next = absurd h
@@ -91,13 +96,15 @@ module _ {n : ℕ} {st : List Statement} {r : Relation} (L : Laws n st r) where
   pub root-label : {C : Type 0} {a : ℕ} (set : List ℕ) → rootOf st r set ≡ labelled a
       → ((k : ℕ) → Stated st (labelling k a) → In st r k set → C) → C
   root-label [] e next = absurd (present-label e)
-  root-label (g ∷ set) e next = label-from _ st e (λ k s p. next k s (record { holds = p }))
+  root-label (g ∷ set) e next =
+      first-from _ st (node-label (labelOf st r (g ∷ set)) e) λ k s p.
+      next k s (record { holds = p })
 
   -- every label stated in a set that is compatible with itself is the root's
   pub label-root : {k a : ℕ} (set : List ℕ) → Together st r set set → Stated st (labelling k a) → In st r k set
       → rootOf st r set ≡ labelled a
   label-root [] t s u = absurd (empty-in u)
   label-root {k} {a} (g ∷ set) t s u =
-      label-found _ st s (u .holds) λ b e.
-      label-from _ st e λ l s′ p.
-      subst (λ x. rootOf st r (g ∷ set) ≡ labelled x) (one-label L (t l k (record { holds = p }) u) s′ s) e
+      first-found (λ x. under st r x (g ∷ set)) st s (u .holds) λ b e.
+      first-from _ st e λ l s′ p.
+      subst (λ x. rootOf st r (g ∷ set) ≡ labelled x) (one-label L (t l k (record { holds = p }) u) s′ s) (ap nodeOf e)
