@@ -7,12 +7,12 @@ use native.Mathlib.Omega.{arith}
 use Rattle.sheet.specs.declared.items.Statement.{Statement}
 use Rattle.sheet.specs.Tests.{same}
 use Rattle.sheet.proofs.Choice.{is-same, not-same}
-use Rattle.closure.specs.Connectives.{_and_, _or_}
-use Rattle.closure.specs.Facts.{Kind, ordered, compatible, Relation, Holds}
-use Rattle.closure.specs.Stated.{selection, labelling, Stated, someSelection}
-use Rattle.closure.specs.Support.{underChild, overChild}
-use Rattle.closure.proofs.Logic.{either-first, either-second, either-of}
-use Rattle.closure.proofs.Some.{by-selection-at, one-selection-at}
+use Rattle.rules.specs.Connectives.{_and_, _or_}
+use Rattle.rules.specs.Facts.{Kind, ordered, compatible, Relation, Holds}
+use Rattle.rules.specs.Stated.{selection, labelling, Stated, someSelection}
+use Rattle.rules.specs.Support.{underChild, overChild}
+use Rattle.rules.proofs.Logic.{either-first, either-second, either-of}
+use Rattle.rules.proofs.Some.{by-selection-at, one-selection-at}
 use Rattle.trees.proofs.Structures.{same-selection, is-selection}
 
 -- the new variable is the number n

@@ -8,10 +8,10 @@ use native.Mathlib.Omega.{arith}
 use Rattle.sheet.specs.declared.items.Statement.{Statement}
 use Rattle.sheet.specs.Tests.{same}
 use Rattle.sheet.proofs.Choice.{same-true}
-use Rattle.closure.specs.Facts.{Kind, ordered, compatible, fact, Relation, Holds, Closed}
-use Rattle.closure.specs.Stated.{selection, labelling, Stated}
-use Rattle.closure.proofs.Supported.{under-by, over-by, under-of, over-of}
-use Rattle.closure.proofs.Lists.{named, named-fact, all-name-more}
+use Rattle.rules.specs.Facts.{Kind, ordered, compatible, fact, Relation, Holds, Closed}
+use Rattle.rules.specs.Stated.{selection, labelling, Stated}
+use Rattle.rules.proofs.Supported.{under-by, over-by, under-of, over-of}
+use Rattle.rules.proofs.Lists.{named, named-fact, all-name-more}
 use Rattle.trees.proofs.Structures.{descends, one-label, symmetric, through, Laws, is-selection, left-variable}
 use Rattle.trees.proofs.Structures.{right-variable, compatible-right}
 use Rattle.trees.proofs.Child.{withSelection, compatibleChild, between, withChild, compatible-over}

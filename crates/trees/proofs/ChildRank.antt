@@ -7,10 +7,10 @@ use native.Mathlib.Omega.{arith}
 use Rattle.sheet.specs.declared.items.Statement.{Statement}
 use Rattle.sheet.specs.Tests.{same}
 use Rattle.sheet.proofs.Choice.{is-same}
-use Rattle.closure.specs.Facts.{ordered, Relation, Holds}
-use Rattle.closure.specs.Stated.{selection, Stated}
-use Rattle.closure.proofs.Lists.{named}
-use Rattle.closure.proofs.Supported.{under-of, over-of}
+use Rattle.rules.specs.Facts.{ordered, Relation, Holds}
+use Rattle.rules.specs.Stated.{selection, Stated}
+use Rattle.rules.proofs.Lists.{named}
+use Rattle.rules.proofs.Supported.{under-of, over-of}
 use Rattle.trees.proofs.Structures.{descends, through, Laws}
 use Rattle.trees.proofs.Extensions.{Ranked, Extends, Extension}
 use Rattle.trees.proofs.Lookups.{childrenAt, child-from, child-in}

@@ -5,10 +5,10 @@ use mathlib.Core.List.{List}
 use mathlib.Core.Path.{_≡_, sym, subst, _∙_}
 use Rattle.sheet.specs.declared.items.Statement.{Statement}
 use Rattle.sheet.specs.Statements.{Names}
-use Rattle.closure.specs.Facts.{ordered, Relation, Holds}
-use Rattle.closure.specs.Support.{underChild, overChild, supported}
-use Rattle.closure.proofs.Lists.{named}
-use Rattle.closure.proofs.Supported.{under-by, over-by, label-by, under-of, over-of, Carries, carried}
+use Rattle.rules.specs.Facts.{ordered, Relation, Holds}
+use Rattle.rules.specs.Support.{underChild, overChild, supported}
+use Rattle.rules.proofs.Lists.{named}
+use Rattle.rules.proofs.Supported.{under-by, over-by, label-by, under-of, over-of, Carries, carried}
 use Rattle.trees.proofs.Structures.{through, Laws}
 use Rattle.trees.proofs.Child.{withSelection, withChild, from-more, below-new, new-below, From, new, old}
 use Rattle.trees.proofs.Child.{selection-from, label-stays}

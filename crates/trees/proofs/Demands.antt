@@ -11,11 +11,11 @@ use Rattle.sheet.specs.declared.whole.SheetRead.{SheetRead}
 use Rattle.sheet.specs.Sheets.{Sheet, readSheet, sheetAt}
 use Rattle.sheet.specs.Statements.{All, Names}
 use Rattle.sheet.proofs.Theorems.{accepted-names}
-use Rattle.closure.specs.declared.replies.Reply.{Reply}
-use Rattle.closure.specs.Demand.{Demand-2, Smallest}
-use Rattle.closure.specs.Replies.{fails, withStatement, replyTo}
-use Rattle.closure.proofs.Demand as Facts
-use Rattle.closure.proofs.Lists.{all-map}
+use Rattle.rules.specs.declared.replies.Reply.{Reply}
+use Rattle.rules.specs.Demand.{Demand-2, Smallest}
+use Rattle.rules.specs.Replies.{fails, withStatement, replyTo}
+use Rattle.rules.proofs.Demand as Facts
+use Rattle.rules.proofs.Lists.{all-map}
 use Rattle.trees.specs.Demand.{Implies, Answers, Demand-3}
 use Rattle.trees.proofs.Meaning.{implies}
 use Rattle.trees.proofs.Equivalences.{exactly, never-by-trial}

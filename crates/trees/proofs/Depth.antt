@@ -4,7 +4,7 @@ use mathlib.Core.List.{List, [], _∷_}
 use lib.ListN.{length}
 use native.Mathlib.Omega.{arith}
 use Rattle.sheet.specs.declared.items.Statement.{Statement}
-use Rattle.closure.specs.Facts.{Relation}
+use Rattle.rules.specs.Facts.{Relation}
 use Rattle.trees.specs.Trees.{Present, Path}
 use Rattle.trees.proofs.Structures.{Laws}
 use Rattle.trees.proofs.Sets.{In, step, walk, least, one-in, step-in, root-in}

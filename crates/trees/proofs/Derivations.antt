@@ -8,18 +8,18 @@ use Rattle.sheet.specs.declared.items.Statement.{Statement}
 use Rattle.sheet.specs.Statements.{Names, AllName}
 use Rattle.sheet.specs.Tests.{same}
 use Rattle.sheet.proofs.Choice.{is-same, same-true, same-false}
-use Rattle.closure.specs.Connectives.{_or_}
-use Rattle.closure.specs.Facts.{Kind, ordered, compatible, Relation, Holds, Closed}
-use Rattle.closure.specs.Stated.{selection, labelling, Stated}
-use Rattle.closure.specs.Derived.{derived, factsOf}
-use Rattle.closure.specs.Clashes.{clashesAt, clashes}
-use Rattle.closure.specs.Support.{supported}
-use Rattle.closure.proofs.Logic.{both, either-first, either-second, either-of, decided, contrary}
-use Rattle.closure.proofs.Lists.{named}
-use Rattle.closure.proofs.Supported.{under-by, over-by, label-by, Carries, carried}
-use Rattle.closure.proofs.Tables.{fact-row, fact-column}
-use Rattle.closure.proofs.Derived.{derived-closed}
-use Rattle.closure.proofs.Clashing.{not-clashing, differ-by}
+use Rattle.rules.specs.Connectives.{_or_}
+use Rattle.rules.specs.Facts.{Kind, ordered, compatible, Relation, Holds, Closed}
+use Rattle.rules.specs.Stated.{selection, labelling, Stated}
+use Rattle.rules.specs.Derived.{derived, factsOf}
+use Rattle.rules.specs.Clashes.{clashesAt, clashes}
+use Rattle.rules.specs.Support.{supported}
+use Rattle.rules.proofs.Logic.{both, either-first, either-second, either-of, decided, contrary}
+use Rattle.rules.proofs.Lists.{named}
+use Rattle.rules.proofs.Supported.{under-by, over-by, label-by, Carries, carried}
+use Rattle.rules.proofs.Tables.{fact-row, fact-column}
+use Rattle.rules.proofs.Derived.{derived-closed}
+use Rattle.rules.proofs.Clashing.{not-clashing, differ-by}
 use Rattle.trees.proofs.Structures.{Laws}
 
 -- the facts, and each number related to itself

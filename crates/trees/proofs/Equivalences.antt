@@ -5,13 +5,13 @@ use mathlib.Core.Path.{_≡_, refl}
 use Rattle.sheet.specs.declared.items.Statement.{Statement}
 use Rattle.sheet.specs.Sheets.{Sheet}
 use Rattle.sheet.specs.Statements.{Names}
-use Rattle.closure.specs.declared.replies.Reply.{Reply}
-use Rattle.closure.specs.Derived.{factsOf}
-use Rattle.closure.specs.Support.{supported}
-use Rattle.closure.specs.Replies.{fails, withStatement, replyTo}
-use Rattle.closure.proofs.Logic.{decided, refuted}
-use Rattle.closure.proofs.Lists.{all-with}
-use Rattle.closure.proofs.Demand.{replied}
+use Rattle.rules.specs.declared.replies.Reply.{Reply}
+use Rattle.rules.specs.Derived.{factsOf}
+use Rattle.rules.specs.Support.{supported}
+use Rattle.rules.specs.Replies.{fails, withStatement, replyTo}
+use Rattle.rules.proofs.Logic.{decided, refuted}
+use Rattle.rules.proofs.Lists.{all-with}
+use Rattle.rules.proofs.Demand.{replied}
 use Rattle.trees.specs.Assignments.{Keeps, Breaks}
 use Rattle.trees.specs.Demand.{Met, Some, Every, Unmet, Implies, Answers, Demand-3}
 use Rattle.trees.proofs.Sound.{no-clash}

@@ -6,10 +6,10 @@ use mathlib.Core.Path.{_≡_, refl, _∙_}
 use native.Mathlib.Omega.{arith}
 use Rattle.sheet.specs.declared.items.Statement.{Statement}
 use Rattle.sheet.specs.Statements.{Names}
-use Rattle.closure.specs.Facts.{Kind, ordered, Relation, Holds}
-use Rattle.closure.specs.Stated.{selection, Stated}
-use Rattle.closure.specs.Support.{supported}
-use Rattle.closure.proofs.Lists.{names-more}
+use Rattle.rules.specs.Facts.{Kind, ordered, Relation, Holds}
+use Rattle.rules.specs.Stated.{selection, Stated}
+use Rattle.rules.specs.Support.{supported}
+use Rattle.rules.proofs.Lists.{names-more}
 use Rattle.trees.proofs.Structures.{Laws}
 
 -- ranks of variables: no lower above, lower at a child; they bound the depth of least trees

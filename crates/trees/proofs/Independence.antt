@@ -6,12 +6,12 @@ use mathlib.Core.Path.{_≡_, subst}
 use Rattle.sheet.specs.declared.items.Statement.{Statement}
 use Rattle.sheet.specs.Sheets.{Sheet}
 use Rattle.sheet.specs.Statements.{AllName, All, Names}
-use Rattle.closure.specs.declared.replies.Reply.{Reply}
-use Rattle.closure.specs.Facts.{ordered}
-use Rattle.closure.specs.Replies.{fails, replyTo}
-use Rattle.closure.proofs.Logic.{refuted}
-use Rattle.closure.proofs.Demand.{replied}
-use Rattle.closure.proofs.Lists.{all-from}
+use Rattle.rules.specs.declared.replies.Reply.{Reply}
+use Rattle.rules.specs.Facts.{ordered}
+use Rattle.rules.specs.Replies.{fails, replyTo}
+use Rattle.rules.proofs.Logic.{refuted}
+use Rattle.rules.proofs.Demand.{replied}
+use Rattle.rules.proofs.Lists.{all-from}
 use Rattle.trees.specs.Trees.{Below}
 use Rattle.trees.specs.Assignments.{Assignment, BreaksAll, Meets}
 use Rattle.trees.specs.Demand.{Some}

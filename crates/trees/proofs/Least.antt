@@ -5,11 +5,11 @@ use mathlib.Core.Bool.{true}
 use mathlib.Core.List.{List, [], _∷_, _++_}
 use mathlib.Core.Path.{_≡_}
 use Rattle.sheet.specs.declared.items.Statement.{Statement}
-use Rattle.closure.specs.Facts.{ordered, compatible, Relation, Holds}
-use Rattle.closure.specs.Support.{underLabel}
-use Rattle.closure.specs.Stated.{selection, Stated}
-use Rattle.closure.proofs.Supported.{label-by}
-use Rattle.closure.proofs.Lists.{named, all-one, all-by}
+use Rattle.rules.specs.Facts.{ordered, compatible, Relation, Holds}
+use Rattle.rules.specs.Support.{underLabel}
+use Rattle.rules.specs.Stated.{selection, Stated}
+use Rattle.rules.proofs.Supported.{label-by}
+use Rattle.rules.proofs.Lists.{named, all-one, all-by}
 use Rattle.trees.specs.Assignments.{Keeps, Assignment, KeepsAll}
 use Rattle.trees.specs.Trees.{labelled, Present, Path, Tree, IsTree, Below, Compatible, Child, Labelled}
 use Rattle.trees.proofs.Structures.{descends, one-label, through, Laws, left-variable, compatible-below}

@@ -7,9 +7,9 @@ use mathlib.Core.Path.{_≡_, refl, ap, ap₂, subst}
 use Rattle.sheet.specs.declared.items.Statement.{Statement}
 use Rattle.sheet.specs.Tests.{same, pick}
 use Rattle.sheet.proofs.Choice.{is-same, same-true}
-use Rattle.closure.specs.Stated.{selection, Stated}
-use Rattle.closure.specs.Connectives.{_and_}
-use Rattle.closure.proofs.Logic.{both, first-of, second-of}
+use Rattle.rules.specs.Stated.{selection, Stated}
+use Rattle.rules.specs.Connectives.{_and_}
+use Rattle.rules.proofs.Logic.{both, first-of, second-of}
 use Rattle.trees.specs.Trees.{Node, bare, labelled, Present}
 use Rattle.trees.proofs.Nodes.{bare-unlabelled, label-of}
 

@@ -9,11 +9,11 @@ use Rattle.sheet.specs.declared.items.Statement.{Statement}
 use Rattle.sheet.specs.Statements.{Names}
 use Rattle.sheet.specs.Tests.{less}
 use Rattle.sheet.proofs.Choice.{is-less, not-less}
-use Rattle.closure.specs.Facts.{Kind, ordered, compatible, fact, Relation, Holds, Closed}
-use Rattle.closure.specs.Stated.{selection, labelling, Stated}
-use Rattle.closure.proofs.Logic.{contrary}
-use Rattle.closure.proofs.Supported.{under-by, over-by, label-by, Carries, carried}
-use Rattle.closure.proofs.Lists.{named, names-more, all-by}
+use Rattle.rules.specs.Facts.{Kind, ordered, compatible, fact, Relation, Holds, Closed}
+use Rattle.rules.specs.Stated.{selection, labelling, Stated}
+use Rattle.rules.proofs.Logic.{contrary}
+use Rattle.rules.proofs.Supported.{under-by, over-by, label-by, Carries, carried}
+use Rattle.rules.proofs.Lists.{named, names-more, all-by}
 use Rattle.trees.proofs.Structures.{descends, one-label, symmetric, through, Laws, left-variable, right-variable}
 use Rattle.trees.proofs.Structures.{is-labelling}
 use Rattle.trees.proofs.Extensions.{Ranked, Extends, Extension}

@@ -10,9 +10,9 @@ use borrow.Author.Tests.{not-true}
 use native.Mathlib.Omega.{arith}
 use Rattle.sheet.specs.declared.items.Statement.{Statement}
 use Rattle.sheet.specs.Tests.{pick}
-use Rattle.closure.specs.Facts.{compatible, Relation}
-use Rattle.closure.specs.Stated.{selection, labelling, Stated}
-use Rattle.closure.proofs.Logic.{last-or-before}
+use Rattle.rules.specs.Facts.{compatible, Relation}
+use Rattle.rules.specs.Stated.{selection, labelling, Stated}
+use Rattle.rules.proofs.Logic.{last-or-before}
 use Rattle.trees.proofs.Structures.{same-selection, same-labelling, IsSelection, is-selection, is-labelling}
 use Rattle.trees.proofs.Lookups.{in-choice, chosen-in, others-in}
 

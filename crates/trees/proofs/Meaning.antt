@@ -7,10 +7,10 @@ use native.Mathlib.Omega.{arith}
 use Rattle.sheet.specs.declared.items.Statement.{Statement}
 use Rattle.sheet.specs.Sheets.{Sheet}
 use Rattle.sheet.specs.Statements.{Names, AllName}
-use Rattle.closure.specs.declared.replies.Reply.{Reply}
-use Rattle.closure.specs.Replies.{fails, withStatement, replyTo}
-use Rattle.closure.proofs.Demand.{replied}
-use Rattle.closure.proofs.Lists.{all-with, all-without}
+use Rattle.rules.specs.declared.replies.Reply.{Reply}
+use Rattle.rules.specs.Replies.{fails, withStatement, replyTo}
+use Rattle.rules.proofs.Demand.{replied}
+use Rattle.rules.proofs.Lists.{all-with, all-without}
 use Rattle.trees.specs.Assignments.{Keeps, Breaks}
 use Rattle.trees.specs.Demand.{Some, Implies}
 use Rattle.trees.proofs.Independence.{leastOf, least-of-meets, one-against-all}

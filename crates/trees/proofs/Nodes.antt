@@ -2,7 +2,7 @@
 use Prim.Native.Nat.{ℕ}
 use mathlib.Core.List.{_∷_}
 use mathlib.Core.Path.{_≡_, refl, sym, subst, _∙_}
-use Rattle.closure.specs.Facts.{Kind, ordered, compatible}
+use Rattle.rules.specs.Facts.{Kind, ordered, compatible}
 use Rattle.trees.specs.Trees.{Node, absent, bare, labelled, Present, Path, Tree, Below, Compatible, Child}
 
 pub label-of : {a b : ℕ} → labelled a ≡ labelled b → a ≡ b

@@ -7,11 +7,11 @@ use mathlib.Core.Path.{_≡_, refl, _∙_}
 use native.Mathlib.Omega.{arith}
 use Rattle.sheet.specs.declared.items.Statement.{Statement}
 use Rattle.sheet.specs.Statements.{All, Names, AllName}
-use Rattle.closure.specs.Facts.{ordered, compatible, Relation}
-use Rattle.closure.specs.Stated.{selection, Stated}
-use Rattle.closure.specs.Support.{supported, underChild, underLabel}
-use Rattle.closure.proofs.Logic.{both, decided, refuted, contrary}
-use Rattle.closure.proofs.Lists.{all-name-more, all-from}
+use Rattle.rules.specs.Facts.{ordered, compatible, Relation}
+use Rattle.rules.specs.Stated.{selection, Stated}
+use Rattle.rules.specs.Support.{supported, underChild, underLabel}
+use Rattle.rules.proofs.Logic.{both, decided, refuted, contrary}
+use Rattle.rules.proofs.Lists.{all-name-more, all-from}
 use Rattle.trees.proofs.Structures.{Laws}
 use Rattle.trees.proofs.Extensions.{Extends, Extension, unextended, further}
 use Rattle.trees.proofs.Child.{withChild, below-new, new-below}

@@ -4,11 +4,11 @@ use mathlib.Core.List.{List}
 use mathlib.Core.Logic.{⊎-elim}
 use Rattle.sheet.specs.declared.items.Statement.{Statement}
 use Rattle.sheet.specs.Statements.{Names, AllName}
-use Rattle.closure.specs.Facts.{ordered, Relation}
-use Rattle.closure.specs.Stated.{selection}
-use Rattle.closure.specs.Support.{supported}
-use Rattle.closure.proofs.Logic.{contrary}
-use Rattle.closure.proofs.Lists.{all-name-more, all-by, all-from}
+use Rattle.rules.specs.Facts.{ordered, Relation}
+use Rattle.rules.specs.Stated.{selection}
+use Rattle.rules.specs.Support.{supported}
+use Rattle.rules.proofs.Logic.{contrary}
+use Rattle.rules.proofs.Lists.{all-name-more, all-by, all-from}
 use Rattle.trees.specs.Assignments.{Keeps, Assignment, KeepsAll, Breaks, BreaksAll}
 use Rattle.trees.specs.Trees.{IsTree, Below, Child}
 use Rattle.trees.proofs.Nodes.{related-self, related-children}

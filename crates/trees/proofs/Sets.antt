@@ -5,10 +5,10 @@ use mathlib.Core.List.{List, [], _∷_, List·Memᴰ·head, List·Memᴰ·eq-of-
 use mathlib.Core.Option.{Option}
 use mathlib.Core.Path.{_≡_, refl, ap, subst}
 use Rattle.sheet.specs.declared.items.Statement.{Statement}
-use Rattle.closure.specs.Facts.{ordered, compatible, Relation, Holds}
-use Rattle.closure.specs.Stated.{selection, labelling, Stated, any, firstLabel}
-use Rattle.closure.proofs.Some.{any-by, any-one}
-use Rattle.closure.proofs.Labels.{first-from, first-found}
+use Rattle.rules.specs.Facts.{ordered, compatible, Relation, Holds}
+use Rattle.rules.specs.Stated.{selection, labelling, Stated, any, firstLabel}
+use Rattle.rules.proofs.Some.{any-by, any-one}
+use Rattle.rules.proofs.Labels.{first-from, first-found}
 use Rattle.trees.specs.Trees.{Node, absent, labelled, Present, Path}
 use Rattle.trees.specs.Assignments.{Assignment}
 use Rattle.trees.proofs.Structures.{one-label, Laws}

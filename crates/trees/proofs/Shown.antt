@@ -6,10 +6,10 @@ use mathlib.Core.Logic.{⊎-elim}
 use mathlib.Core.Path.{_≡_, refl, subst, _∙_}
 use native.Mathlib.Omega.{arith}
 use Rattle.sheet.specs.declared.items.Statement.{Statement}
-use Rattle.closure.specs.Facts.{ordered, compatible, Relation, Holds}
-use Rattle.closure.specs.Stated.{selection, labelling}
-use Rattle.closure.proofs.Logic.{decided}
-use Rattle.closure.proofs.Lists.{named}
+use Rattle.rules.specs.Facts.{ordered, compatible, Relation, Holds}
+use Rattle.rules.specs.Stated.{selection, labelling}
+use Rattle.rules.proofs.Logic.{decided}
+use Rattle.rules.proofs.Lists.{named}
 use Rattle.trees.specs.Trees.{labelled, Below, Compatible}
 use Rattle.trees.specs.Assignments.{Assignment}
 use Rattle.trees.proofs.Structures.{Laws, right-variable}

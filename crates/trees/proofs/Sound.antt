@@ -4,16 +4,16 @@ use mathlib.Core.Bool.{true}
 use mathlib.Core.List.{List, [], _∷_}
 use mathlib.Core.Path.{_≡_}
 use Rattle.sheet.specs.declared.items.Statement.{Statement}
-use Rattle.closure.specs.Facts.{Kind, ordered, compatible, fact, Holds, Closed}
-use Rattle.closure.specs.Stated.{selection, Stated}
-use Rattle.closure.specs.Derived.{factsOf}
-use Rattle.closure.specs.Clashes.{clashesAt, clashes}
-use Rattle.closure.specs.Support.{supported}
-use Rattle.closure.proofs.Logic.{first-of, second-of}
-use Rattle.closure.proofs.Supported.{under-of, over-of, label-under}
-use Rattle.closure.proofs.Derived.{smallest}
-use Rattle.closure.proofs.Clashing.{clashing, differ-of}
-use Rattle.closure.proofs.Lists.{all-one}
+use Rattle.rules.specs.Facts.{Kind, ordered, compatible, fact, Holds, Closed}
+use Rattle.rules.specs.Stated.{selection, Stated}
+use Rattle.rules.specs.Derived.{factsOf}
+use Rattle.rules.specs.Clashes.{clashesAt, clashes}
+use Rattle.rules.specs.Support.{supported}
+use Rattle.rules.proofs.Logic.{first-of, second-of}
+use Rattle.rules.proofs.Supported.{under-of, over-of, label-under}
+use Rattle.rules.proofs.Derived.{smallest}
+use Rattle.rules.proofs.Clashing.{clashing, differ-of}
+use Rattle.rules.proofs.Lists.{all-one}
 use Rattle.trees.specs.Trees.{Child}
 use Rattle.trees.specs.Assignments.{Assignment, Keeps, KeepsAll}
 use Rattle.trees.proofs.Nodes.{Related, related-self, related-through, related-children, compatible-turned}

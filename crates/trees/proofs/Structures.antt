@@ -6,8 +6,8 @@ use mathlib.Core.Path.{_≡_, sym, ap, subst}
 use Rattle.sheet.specs.declared.items.Statement.{Statement}
 use Rattle.sheet.specs.Fields.{variable, feature, label}
 use Rattle.sheet.specs.Statements.{AllName}
-use Rattle.closure.specs.Facts.{Kind, ordered, compatible, Relation, Holds, Closed}
-use Rattle.closure.specs.Stated.{selection, labelling, Stated}
+use Rattle.rules.specs.Facts.{Kind, ordered, compatible, Relation, Holds, Closed}
+use Rattle.rules.specs.Stated.{selection, labelling, Stated}
 
 -- the facts r are closed over n variables and F5 applies nowhere; every number is related to itself, and one that is no
 -- variable to no other

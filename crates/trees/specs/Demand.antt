@@ -5,8 +5,8 @@ use mathlib.Core.Path.{_≡_}
 use Rattle.sheet.specs.declared.items.Statement.{Statement}
 use Rattle.sheet.specs.Sheets.{Sheet}
 use Rattle.sheet.specs.Statements.{Names}
-use Rattle.closure.specs.declared.replies.Reply.{Reply}
-use Rattle.closure.specs.Replies.{fails, replyTo}
+use Rattle.rules.specs.declared.replies.Reply.{Reply}
+use Rattle.rules.specs.Replies.{fails, replyTo}
 use Rattle.trees.specs.Assignments.{Assignment, Keeps, Breaks, Counts}
 
 -- some assignment counts; some that counts is such; each that counts is such

@@ -6,11 +6,11 @@ use Rattle.sheet.specs.declared.items.Statement.{Statement}
 use Rattle.sheet.specs.Sheets.{Sheet}
 use Rattle.sheet.specs.Statements.{AllName}
 use Rattle.sheet.specs.Tests.{pick}
-use Rattle.closure.specs.declared.replies.Reply.{Reply}
-use Rattle.closure.specs.Replies.{replyTo}
-use Rattle.closure.specs.Demand.{Replied, Demand-2, Smallest}
-use Rattle.closure.proofs.Derived.{smallest, derives}
-use Rattle.closure.proofs.Clashing.{clash-least, clash-nowhere}
+use Rattle.rules.specs.declared.replies.Reply.{Reply}
+use Rattle.rules.specs.Replies.{replyTo}
+use Rattle.rules.specs.Demand.{Replied, Demand-2, Smallest}
+use Rattle.rules.proofs.Derived.{smallest, derives}
+use Rattle.rules.proofs.Clashing.{clash-least, clash-nowhere}
 
 -- a reply follows from its two tests, and they from it
 always-by : (a b : Bool) → (pick a Reply.Always (pick b Reply.Never Reply.Open) ≡ Reply.Always) ↔ (a ≡ true)

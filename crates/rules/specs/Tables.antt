@@ -5,8 +5,8 @@ use mathlib.Core.List.{List, [], _∷_, _++_}
 use mathlib.Core.Path.{_≡_}
 use lib.ListN.{length, getD}
 use Rattle.sheet.specs.Tests.{less, same, pick}
-use Rattle.closure.specs.Connectives.{_and_, _or_}
-use Rattle.closure.specs.Facts.{Kind, ordered, compatible, Relation}
+use Rattle.rules.specs.Connectives.{_and_, _or_}
+use Rattle.rules.specs.Facts.{Kind, ordered, compatible, Relation}
 
 -- whether a cell says ≤ (it is 1 or 3) or ~ (it is 2 or 3)
 unfoldable pub says : Kind → ℕ → Bool

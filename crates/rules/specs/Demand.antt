@@ -8,14 +8,14 @@ use mathlib.Core.Path.{_≡_}
 use Rattle.sheet.specs.declared.items.Statement.{Statement}
 use Rattle.sheet.specs.Fields.{variable}
 use Rattle.sheet.specs.Sheets.{Sheet}
-use Rattle.closure.specs.declared.clashes.Clash.{Clash}
-use Rattle.closure.specs.declared.replies.Reply.{Reply}
-use Rattle.closure.specs.Facts.{Kind, Relation, Holds, Into, Within, Closed}
-use Rattle.closure.specs.Tables.{facts, Shape}
-use Rattle.closure.specs.Derived.{derived, factsOf}
-use Rattle.closure.specs.Clashes.{clashesAt, clashOf}
-use Rattle.closure.specs.Support.{supported}
-use Rattle.closure.specs.Replies.{fails, withStatement, replyTo}
+use Rattle.rules.specs.declared.clashes.Clash.{Clash}
+use Rattle.rules.specs.declared.replies.Reply.{Reply}
+use Rattle.rules.specs.Facts.{Kind, Relation, Holds, Into, Within, Closed}
+use Rattle.rules.specs.Tables.{facts, Shape}
+use Rattle.rules.specs.Derived.{derived, factsOf}
+use Rattle.rules.specs.Clashes.{clashesAt, clashOf}
+use Rattle.rules.specs.Support.{supported}
+use Rattle.rules.specs.Replies.{fails, withStatement, replyTo}
 
 -- the table t is the smallest closed set of facts among those that a test gives
 pub record Derives (n : ℕ) (st : List Statement) (t : List ℕ) : Type 0 where

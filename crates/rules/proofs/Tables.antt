@@ -8,11 +8,11 @@ use native.Mathlib.Nat.{suc-mul, zero-mul, div-add-mod', mod-lt, div-lt-iff-lt-m
 use native.Mathlib.Omega.{arith}
 use Rattle.sheet.specs.Tests.{less}
 use Rattle.sheet.proofs.Choice.{is-less, less-true}
-use Rattle.closure.specs.Connectives.{_and_}
-use Rattle.closure.specs.Facts.{Kind, ordered, compatible, Relation, Holds}
-use Rattle.closure.specs.Tables.{says, cellOf, cellAt, facts, rowOf, rowsOf, tableOf, Shape}
-use Rattle.closure.proofs.Logic.{first-of, second-of, contrary}
-use Rattle.closure.proofs.Cells.{said, small-cell, says-nothing, same-cell}
+use Rattle.rules.specs.Connectives.{_and_}
+use Rattle.rules.specs.Facts.{Kind, ordered, compatible, Relation, Holds}
+use Rattle.rules.specs.Tables.{says, cellOf, cellAt, facts, rowOf, rowsOf, tableOf, Shape}
+use Rattle.rules.proofs.Logic.{first-of, second-of, contrary}
+use Rattle.rules.proofs.Cells.{said, small-cell, says-nothing, same-cell}
 
 -- the cell that a set of facts has for i and j
 abbrev factCell : Relation → ℕ → ℕ → ℕ

@@ -5,7 +5,7 @@ use mathlib.Core.Path.{_≡_, refl, sym, _∙_}
 use native.Mathlib.Omega.{arith}
 use Rattle.sheet.specs.Tests.{same}
 use Rattle.sheet.proofs.Choice.{same-true, same-false}
-use Rattle.closure.specs.Connectives.{_and_, _or_}
+use Rattle.rules.specs.Connectives.{_and_, _or_}
 
 pub both : {a b : Bool} → a ≡ true → b ≡ true → a and b ≡ true
 unfolding _and_

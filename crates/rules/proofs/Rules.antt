@@ -6,13 +6,13 @@ use mathlib.Core.Path.{_≡_, refl}
 use Rattle.sheet.specs.declared.items.Statement.{Statement}
 use Rattle.sheet.specs.Tests.{same}
 use Rattle.sheet.proofs.Choice.{is-same, same-true}
-use Rattle.closure.specs.Connectives.{_and_, _or_}
-use Rattle.closure.specs.Stated.{selection, Stated}
-use Rattle.closure.specs.Facts.{Kind, ordered, compatible, fact, Relation, Holds, Into, Closed}
-use Rattle.closure.specs.Derived.{isStated, passes, turns, descends, round}
-use Rattle.closure.proofs.Logic.{both, first-of, second-of, either-first, either-second, either-of}
-use Rattle.closure.proofs.Some.{below-by, below-one, by-ordering, by-compatibility, by-selection, one-ordering}
-use Rattle.closure.proofs.Some.{one-compatibility, one-selection}
+use Rattle.rules.specs.Connectives.{_and_, _or_}
+use Rattle.rules.specs.Stated.{selection, Stated}
+use Rattle.rules.specs.Facts.{Kind, ordered, compatible, fact, Relation, Holds, Into, Closed}
+use Rattle.rules.specs.Derived.{isStated, passes, turns, descends, round}
+use Rattle.rules.proofs.Logic.{both, first-of, second-of, either-first, either-second, either-of}
+use Rattle.rules.proofs.Some.{below-by, below-one, by-ordering, by-compatibility, by-selection, one-ordering}
+use Rattle.rules.proofs.Some.{one-compatibility, one-selection}
 
 -- the test for a pair of numbers, and what it tells
 is-pair : (i j : ℕ) → same i i and same j j ≡ true

@@ -6,7 +6,7 @@ use mathlib.Core.Option.{Option, none, some}
 use Rattle.sheet.specs.declared.items.Statement.{Statement}
 use Rattle.sheet.specs.Fields.{variable, feature, label}
 use Rattle.sheet.specs.Tests.{pick}
-use Rattle.closure.specs.Connectives.{_or_}
+use Rattle.rules.specs.Connectives.{_or_}
 
 -- i ≤ j
 abbrev pub ordering : ℕ → ℕ → Statement

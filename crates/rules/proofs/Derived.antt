@@ -5,13 +5,13 @@ use mathlib.Core.Path.{_≡_}
 use native.Mathlib.Omega.{arith}
 use Rattle.sheet.specs.declared.items.Statement.{Statement}
 use Rattle.sheet.specs.Statements.{AllName}
-use Rattle.closure.specs.Facts.{Kind, Holds, Into, Within, Closed}
-use Rattle.closure.specs.Tables.{facts, Shape}
-use Rattle.closure.specs.Derived.{nextTable, derived, factsOf}
-use Rattle.closure.specs.Demand.{Derives}
-use Rattle.closure.proofs.Logic.{same-tests}
-use Rattle.closure.proofs.Tables.{zeros-shape, zeros-empty, same-facts}
-use Rattle.closure.proofs.Rounds.{rounds-within, rounds-shape, settles, still-closed}
+use Rattle.rules.specs.Facts.{Kind, Holds, Into, Within, Closed}
+use Rattle.rules.specs.Tables.{facts, Shape}
+use Rattle.rules.specs.Derived.{nextTable, derived, factsOf}
+use Rattle.rules.specs.Demand.{Derives}
+use Rattle.rules.proofs.Logic.{same-tests}
+use Rattle.rules.proofs.Tables.{zeros-shape, zeros-empty, same-facts}
+use Rattle.rules.proofs.Rounds.{rounds-within, rounds-shape, settles, still-closed}
 
 module _ (n : ℕ) (st : List Statement) where
   -- the derived facts are in every closed set, given by a test or not

@@ -6,11 +6,11 @@ use mathlib.Core.Option.{Option}
 use Rattle.sheet.specs.declared.items.Statement.{Statement}
 use Rattle.sheet.specs.Sheets.{Sheet}
 use Rattle.sheet.specs.Tests.{same, pick}
-use Rattle.closure.specs.declared.replies.Reply.{Reply}
-use Rattle.closure.specs.Stated.{firstLabel}
-use Rattle.closure.specs.Derived.{factsOf}
-use Rattle.closure.specs.Clashes.{clashes}
-use Rattle.closure.specs.Support.{supported}
+use Rattle.rules.specs.declared.replies.Reply.{Reply}
+use Rattle.rules.specs.Stated.{firstLabel}
+use Rattle.rules.specs.Derived.{factsOf}
+use Rattle.rules.specs.Clashes.{clashes}
+use Rattle.rules.specs.Support.{supported}
 
 -- what its records state clashes; other ways to fail join here
 abbrev pub fails : Sheet → Bool

@@ -5,8 +5,8 @@ use mathlib.Core.Path.{refl, sym, subst}
 use native.Mathlib.Omega.{arith}
 use Rattle.sheet.specs.declared.items.Statement.{Statement}
 use Rattle.sheet.specs.Statements.{All, Names, AllName}
-use Rattle.closure.specs.Facts.{Kind, ordered, compatible, fact}
-use Rattle.closure.specs.Stated.{Stated}
+use Rattle.rules.specs.Facts.{Kind, ordered, compatible, fact}
+use Rattle.rules.specs.Stated.{Stated}
 
 -- a list has a property where each of its statements does
 pub all-one : (P : Statement → Type 0) {x : Statement} (st : List Statement) → All P st → Stated st x → P x

@@ -7,14 +7,14 @@ use Rattle.sheet.specs.Headers as Headers
 use Rattle.sheet.specs.Items as Items
 use Rattle.sheet.specs.Statements as Statements
 use Rattle.sheet.specs.Sheets as Sheets
-use Rattle.closure.specs.Connectives.{_and_, _or_}
-use Rattle.closure.specs.Stated as Stated
-use Rattle.closure.specs.Tables as Tables
-use Rattle.closure.specs.Derived as Derived
-use Rattle.closure.specs.Clashes as Clashes
-use Rattle.closure.specs.Support as Support
-use Rattle.closure.specs.Replies as Replies
-use Rattle.closure.specs.Cases.{table, worked, countsOf, labelsFrom, AllWorked, done, _next_}
+use Rattle.rules.specs.Connectives.{_and_, _or_}
+use Rattle.rules.specs.Stated as Stated
+use Rattle.rules.specs.Tables as Tables
+use Rattle.rules.specs.Derived as Derived
+use Rattle.rules.specs.Clashes as Clashes
+use Rattle.rules.specs.Support as Support
+use Rattle.rules.specs.Replies as Replies
+use Rattle.rules.specs.Cases.{table, worked, countsOf, labelsFrom, AllWorked, done, _next_}
 
 pub table-holds : AllWorked table
 unfolding table worked countsOf labelsFrom _and_ _or_ Tests.less Tests.same Tests.pick Tests.has

@@ -7,12 +7,12 @@ use native.Mathlib.Omega.{arith}
 use Rattle.sheet.specs.declared.items.Statement.{Statement}
 use Rattle.sheet.specs.Tests.{same}
 use Rattle.sheet.proofs.Choice.{is-same, same-true}
-use Rattle.closure.specs.Connectives.{_and_}
-use Rattle.closure.specs.Stated.{ordering, compatibility, selection, labelling, Stated, any, anyBelow, ifOrdering}
-use Rattle.closure.specs.Stated.{ifCompatibility, ifSelection, ifLabelling, someOrdering, someCompatibility}
-use Rattle.closure.specs.Stated.{someSelection, someLabelling}
-use Rattle.closure.proofs.Logic.{both, first-of, second-of, either-first, either-second, either-of}
-use Rattle.closure.proofs.Logic.{last-or-before}
+use Rattle.rules.specs.Connectives.{_and_}
+use Rattle.rules.specs.Stated.{ordering, compatibility, selection, labelling, Stated, any, anyBelow, ifOrdering}
+use Rattle.rules.specs.Stated.{ifCompatibility, ifSelection, ifLabelling, someOrdering, someCompatibility}
+use Rattle.rules.specs.Stated.{someSelection, someLabelling}
+use Rattle.rules.proofs.Logic.{both, first-of, second-of, either-first, either-second, either-of}
+use Rattle.rules.proofs.Logic.{last-or-before}
 
 pub any-by : {A : Type 0} (test : A → Bool) {x : A} (xs : List A) → List·Memᴰ x xs → test x ≡ true → any test xs ≡ true
 unfolding any

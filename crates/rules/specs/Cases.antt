@@ -7,12 +7,12 @@ use Rattle.sheet.specs.declared.items.Statement.{Statement}
 use Rattle.sheet.specs.declared.refusals.Refusal.{Refusal}
 use Rattle.sheet.specs.Refusals.{numberOf}
 use Rattle.sheet.specs.Sheets.{Sheet, thenSheet, readSheet, sheetOf}
-use Rattle.closure.specs.declared.clashes.Clash.{Clash}
-use Rattle.closure.specs.Facts.{ordered, compatible}
-use Rattle.closure.specs.Tables.{countFacts}
-use Rattle.closure.specs.Derived.{factsOf}
-use Rattle.closure.specs.Clashes.{clashOf}
-use Rattle.closure.specs.Replies.{repliesOf, replyNumber, statedLabel}
+use Rattle.rules.specs.declared.clashes.Clash.{Clash}
+use Rattle.rules.specs.Facts.{ordered, compatible}
+use Rattle.rules.specs.Tables.{countFacts}
+use Rattle.rules.specs.Derived.{factsOf}
+use Rattle.rules.specs.Clashes.{clashOf}
+use Rattle.rules.specs.Replies.{repliesOf, replyNumber, statedLabel}
 
 -- with two numbers: how many facts i ≤ j and i ~ j, the pair that clashes, or number and offset of the refusal
 pub data Outcome : Type 0 where

@@ -5,10 +5,10 @@ use mathlib.Core.List.{List}
 use lib.ListN.{replicate}
 use Rattle.sheet.specs.declared.items.Statement.{Statement}
 use Rattle.sheet.specs.Tests.{same}
-use Rattle.closure.specs.Connectives.{_and_, _or_}
-use Rattle.closure.specs.Stated.{anyBelow, someOrdering, someCompatibility, someSelection}
-use Rattle.closure.specs.Facts.{ordered, compatible, Relation}
-use Rattle.closure.specs.Tables.{facts, tableOf}
+use Rattle.rules.specs.Connectives.{_and_, _or_}
+use Rattle.rules.specs.Stated.{anyBelow, someOrdering, someCompatibility, someSelection}
+use Rattle.rules.specs.Facts.{ordered, compatible, Relation}
+use Rattle.rules.specs.Tables.{facts, tableOf}
 
 -- the fact is stated
 unfoldable pub isStated : List Statement → Relation

@@ -5,11 +5,11 @@ use mathlib.Core.List.{List}
 use Rattle.sheet.specs.declared.items.Statement.{Statement}
 use Rattle.sheet.specs.Fields.{variable}
 use Rattle.sheet.specs.Tests.{same, pick}
-use Rattle.closure.specs.declared.clashes.Clash.{Clash}
-use Rattle.closure.specs.Connectives.{_and_}
-use Rattle.closure.specs.Stated.{someLabelling}
-use Rattle.closure.specs.Facts.{compatible, Relation}
-use Rattle.closure.specs.Derived.{factsOf}
+use Rattle.rules.specs.declared.clashes.Clash.{Clash}
+use Rattle.rules.specs.Connectives.{_and_}
+use Rattle.rules.specs.Stated.{someLabelling}
+use Rattle.rules.specs.Facts.{compatible, Relation}
+use Rattle.rules.specs.Derived.{factsOf}
 
 -- a(i) and b(j) are stated, and a is not b
 unfoldable pub labelsDiffer : List Statement → ℕ → ℕ → Bool

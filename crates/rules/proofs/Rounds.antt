@@ -7,15 +7,15 @@ use Rattle.sheet.specs.declared.items.Statement.{Statement}
 use Rattle.sheet.specs.Statements.{AllName}
 use Rattle.sheet.specs.Tests.{less}
 use Rattle.sheet.proofs.Choice.{less-true, less-false}
-use Rattle.closure.specs.Facts.{Kind, ordered, compatible, Holds, Into, Within, Closed}
-use Rattle.closure.specs.Tables.{facts, Shape, countFacts}
-use Rattle.closure.specs.Derived.{round, nextTable, rounds}
-use Rattle.closure.proofs.Logic.{decided, same-tests}
-use Rattle.closure.proofs.Lists.{named, named-fact}
-use Rattle.closure.proofs.Tables.{fact-row, fact-column, table-shape, table-facts, same-facts}
-use Rattle.closure.proofs.Counts.{count-most, count-back, count-bound}
-use Rattle.closure.proofs.Rules.{round-within, keeps, gives-same, gives-stated, gives-through, gives-turned}
-use Rattle.closure.proofs.Rules.{gives-child}
+use Rattle.rules.specs.Facts.{Kind, ordered, compatible, Holds, Into, Within, Closed}
+use Rattle.rules.specs.Tables.{facts, Shape, countFacts}
+use Rattle.rules.specs.Derived.{round, nextTable, rounds}
+use Rattle.rules.proofs.Logic.{decided, same-tests}
+use Rattle.rules.proofs.Lists.{named, named-fact}
+use Rattle.rules.proofs.Tables.{fact-row, fact-column, table-shape, table-facts, same-facts}
+use Rattle.rules.proofs.Counts.{count-most, count-back, count-bound}
+use Rattle.rules.proofs.Rules.{round-within, keeps, gives-same, gives-stated, gives-through, gives-turned}
+use Rattle.rules.proofs.Rules.{gives-child}
 
 -- how many facts a table has, of both kinds
 abbrev sizeOf : ℕ → List ℕ → ℕ

@@ -4,9 +4,9 @@ use mathlib.Core.Bool.{Bool}
 use mathlib.Core.List.{List}
 use Rattle.sheet.specs.declared.items.Statement.{Statement}
 use Rattle.sheet.specs.Tests.{same}
-use Rattle.closure.specs.Connectives.{_and_}
-use Rattle.closure.specs.Stated.{someSelection, someLabelling}
-use Rattle.closure.specs.Facts.{ordered, compatible, Relation}
+use Rattle.rules.specs.Connectives.{_and_}
+use Rattle.rules.specs.Stated.{someSelection, someLabelling}
+use Rattle.rules.specs.Facts.{ordered, compatible, Relation}
 
 -- j is below a child of i at f: some k[f]m has k ≤ i and j ≤ m
 unfoldable pub underChild : List Statement → Relation → ℕ → ℕ → ℕ → Bool

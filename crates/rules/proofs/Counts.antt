@@ -6,9 +6,9 @@ use native.Mathlib.Nat.{suc-mul}
 use native.Mathlib.Omega.{arith}
 use Rattle.sheet.specs.Tests.{pick}
 use Rattle.sheet.proofs.Choice.{pick-most}
-use Rattle.closure.specs.Facts.{Kind, Relation, Holds, Within}
-use Rattle.closure.specs.Tables.{countPassing, countRow, countRows, countFacts}
-use Rattle.closure.proofs.Logic.{last-or-before}
+use Rattle.rules.specs.Facts.{Kind, Relation, Holds, Within}
+use Rattle.rules.specs.Tables.{countPassing, countRow, countRows, countFacts}
+use Rattle.rules.proofs.Logic.{last-or-before}
 
 -- sums of as many terms: by larger terms, by terms that sum to no more, and by a bound
 sum : ℕ → (ℕ → ℕ) → ℕ

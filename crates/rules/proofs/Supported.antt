@@ -6,11 +6,11 @@ use mathlib.Core.Path.{_≡_, refl, sym, subst}
 use Rattle.sheet.specs.declared.items.Statement.{Statement}
 use Rattle.sheet.specs.Statements.{Names}
 use Rattle.sheet.proofs.Choice.{is-same, same-true}
-use Rattle.closure.specs.Stated.{selection, labelling, Stated}
-use Rattle.closure.specs.Facts.{Kind, ordered, compatible, Relation, Holds}
-use Rattle.closure.specs.Support.{underChild, overChild, underLabel, supported}
-use Rattle.closure.proofs.Logic.{both, first-of, second-of}
-use Rattle.closure.proofs.Some.{by-selection-at, by-labelling, one-selection-at, one-labelling}
+use Rattle.rules.specs.Stated.{selection, labelling, Stated}
+use Rattle.rules.specs.Facts.{Kind, ordered, compatible, Relation, Holds}
+use Rattle.rules.specs.Support.{underChild, overChild, underLabel, supported}
+use Rattle.rules.proofs.Logic.{both, first-of, second-of}
+use Rattle.rules.proofs.Some.{by-selection-at, by-labelling, one-selection-at, one-labelling}
 
 module _ {st : List Statement} (r : Relation) where
   -- k[f]m with k ≤ i and j ≤ m

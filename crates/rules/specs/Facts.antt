@@ -4,7 +4,7 @@ use mathlib.Core.Bool.{Bool, true}
 use mathlib.Core.List.{List}
 use mathlib.Core.Path.{_≡_}
 use Rattle.sheet.specs.declared.items.Statement.{Statement}
-use Rattle.closure.specs.Stated.{ordering, compatibility, selection, Stated}
+use Rattle.rules.specs.Stated.{ordering, compatibility, selection, Stated}
 
 -- the two kinds of fact: i ≤ j and i ~ j
 pub data Kind : Type 0 where

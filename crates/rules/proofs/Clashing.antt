@@ -10,15 +10,15 @@ use Rattle.sheet.specs.declared.items.Statement.{Statement}
 use Rattle.sheet.specs.Fields.{variable}
 use Rattle.sheet.specs.Tests.{less, same, pick}
 use Rattle.sheet.proofs.Choice.{is-same, not-same, same-true, same-false, less-true, less-false}
-use Rattle.closure.specs.declared.clashes.Clash.{Clash}
-use Rattle.closure.specs.Stated.{labelling, Stated}
-use Rattle.closure.specs.Facts.{Relation}
-use Rattle.closure.specs.Derived.{factsOf}
-use Rattle.closure.specs.Clashes.{labelsDiffer, clashesAt, clashInRow, orElse, clashInRows, clashOf, isClash}
-use Rattle.closure.specs.Clashes.{clashes}
-use Rattle.closure.specs.Demand.{LeastClash, NoClash}
-use Rattle.closure.proofs.Logic.{both, first-of, second-of, decided, contrary, last-or-before}
-use Rattle.closure.proofs.Some.{by-labelling, one-labelling}
+use Rattle.rules.specs.declared.clashes.Clash.{Clash}
+use Rattle.rules.specs.Stated.{labelling, Stated}
+use Rattle.rules.specs.Facts.{Relation}
+use Rattle.rules.specs.Derived.{factsOf}
+use Rattle.rules.specs.Clashes.{labelsDiffer, clashesAt, clashInRow, orElse, clashInRows, clashOf, isClash}
+use Rattle.rules.specs.Clashes.{clashes}
+use Rattle.rules.specs.Demand.{LeastClash, NoClash}
+use Rattle.rules.proofs.Logic.{both, first-of, second-of, decided, contrary, last-or-before}
+use Rattle.rules.proofs.Some.{by-labelling, one-labelling}
 
 -- two labels that differ, stated of i and of j
 pub differ-by : {st : List Statement} {i j a b : ℕ} → Stated st (labelling i a) → Stated st (labelling j b)

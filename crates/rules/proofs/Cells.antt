@@ -4,9 +4,9 @@ use mathlib.Core.Bool.{Bool, true, false}
 use mathlib.Core.Path.{_≡_, refl, sym, ap₂, _∙_}
 use native.Mathlib.Omega.{arith}
 use Rattle.sheet.specs.Tests.{less, same, pick}
-use Rattle.closure.specs.Connectives.{_or_}
-use Rattle.closure.specs.Facts.{Kind, ordered, compatible}
-use Rattle.closure.specs.Tables.{says, cellOf}
+use Rattle.rules.specs.Connectives.{_or_}
+use Rattle.rules.specs.Facts.{Kind, ordered, compatible}
+use Rattle.rules.specs.Tables.{says, cellOf}
 
 -- a cell of two tests says as they do
 pub says-ordered : (a b : Bool) → says ordered (cellOf a b) ≡ a

@@ -7,9 +7,9 @@ use mathlib.Core.Path.{_≡_, refl, sym, ap, subst, _∙_}
 use Rattle.sheet.specs.declared.items.Statement.{Statement}
 use Rattle.sheet.specs.Tests.{same, pick}
 use Rattle.sheet.proofs.Choice.{is-same, same-true, chosen, passed}
-use Rattle.closure.specs.Stated.{labelling, Stated, firstLabel}
-use Rattle.closure.specs.Replies.{statedLabel}
-use Rattle.closure.proofs.Logic.{decided}
+use Rattle.rules.specs.Stated.{labelling, Stated, firstLabel}
+use Rattle.rules.specs.Replies.{statedLabel}
+use Rattle.rules.proofs.Logic.{decided}
 
 by-choice : {C : Type 0} (b : Bool) (a c : ℕ) (x : Option ℕ) → pick b (some c) x ≡ some a
     → (b ≡ true → c ≡ a → C) → (x ≡ some a → C) → C
