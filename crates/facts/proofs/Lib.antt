@@ -1,0 +1,12 @@
+-- Laws of the fact table, of what is added to it, and of insertion.
+pub mod Places
+pub mod Joined
+pub mod Fills
+pub mod Stores
+pub mod Sets
+pub mod Moving
+pub mod Adding
+pub mod Stepping
+pub mod Takes
+pub mod Pairs
+pub mod Inserting

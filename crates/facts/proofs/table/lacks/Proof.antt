@@ -1,0 +1,13 @@
+-- `facts::table::lacks` meets its contract.
+use mathlib.Core.Path.{refl}
+use Rattle.sheet.specs.Tests.{same}
+use Rattle.facts.specs.Cells.{isLacking}
+use Rattle.facts.proofs.table.lacks.Statement.{statement}
+use Rattle.facts.proofs.table.lacks.Tie as tie
+
+returns : tie.Need-returns
+unfolding isLacking same
+returns c = refl
+
+pub lacks-spec : {M : Type 1} → statement M
+lacks-spec = tie.close (tie.spec returns)
