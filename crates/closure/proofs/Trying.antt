@@ -1,0 +1,194 @@
+-- A fact on trial: from the closed table to the least closed one that has it too.
+use Prim.Native.Nat.{ℕ, _+_, _*_, _<_, _≤_}
+use lib.ListN.{length, getD, set, length-set}
+use lib.Seq.{getD-set-same, getD-set-other}
+use mathlib.Core.List.{List}
+use mathlib.Core.Logic.{_⊎_, inl, inr, ⊎-elim}
+use mathlib.Core.Path.{_≡_, ap, _∙_}
+use native.Mathlib.Nat.{mul-le-mul}
+use native.Mathlib.Omega.{arith}
+use Rattle.rules.specs.Facts.{Kind, Holds}
+use Rattle.rules.specs.Tables.{facts}
+use Rattle.rules.proofs.Logic.{last-or-before}
+use Rattle.rules.proofs.Tables.{fact-row, fact-column}
+use Rattle.facts.specs.Queue.{firstOf, secondOf, State, state, Queued, Entry, Ready}
+use Rattle.facts.specs.Additions.{Said, Steps}
+use Rattle.facts.specs.Insertion.{Inserting}
+use Rattle.facts.proofs.Moving.{wider, carried, moves-then, ready-after}
+use Rattle.selections.specs.Groups.{Grouped}
+use Rattle.closure.specs.Settled.{Handed, Starting, Settled}
+use Rattle.closure.specs.Trials.{Trying, TryingFact, Tries, Queueing, SubjectQueued}
+use Rattle.closure.proofs.Runs.{tail-bound, handed-on}
+
+-- as many entries as the pairs of one variable leave room for all facts
+pub few-entries : (n tail count : ℕ) → n ≤ 128 → tail ≤ 2 * n → tail + 2 * (n * n) ≤ 33024 + count
+few-entries n tail count few h = omega (arith, mul-le-mul few few)
+
+module _ {n : ℕ} {closed t queue starts ends features children : List ℕ} {w i j : ℕ}
+    (trying : TryingFact n closed t queue starts ends features children w i j) (t₁ : List ℕ)
+    (copied : t₁ ≡ closed) where
+  abbrev given-to : Trying n closed t queue starts ends features children
+  given-to = trying .trying
+
+  copy-ready : Ready n (state t₁ queue 0)
+  copy-ready =
+      record {
+        few = given-to .few;
+        shape = rw copied (given-to .shape);
+        size = given-to .queue-size;
+        room = few-entries n 0 _ (given-to .few) (omega arith);
+        entries = λ k h. absurd (omega arith);
+      }
+
+  pub fact-insert : Inserting n (state t₁ queue 0) w i j
+  fact-insert =
+      record {
+        taking =
+            record {
+              ready = copy-ready;
+              first = trying .first;
+              second = trying .second;
+              cell = trying .cell;
+            };
+        framed = rw copied (given-to .framed);
+      }
+
+  module _ {s₂ : State} (steps : Steps n (Said w i j) (state t₁ queue 0) s₂) where
+    old-handed : (kind : Kind) (x y : ℕ) → Holds (facts n t₁) kind x y
+        → Handed (Grouped starts ends features children) (facts n (s₂ .table)) kind x y
+    old-handed kind x y p =
+        handed-on (steps .moves .grows) (rw copied
+        (given-to .descends kind x y (fact-row n t₁ kind x y p) (fact-column n t₁ kind x y p) (rw copied at p)))
+
+    pub fact-run : Starting n s₂ starts ends features children
+    fact-run =
+        record {
+          running =
+              record {
+                ready = ready-after copy-ready (steps .moves);
+                framed = steps .framed;
+                groups = given-to .groups;
+              };
+          pending = λ kind x y p.
+              ⊎-elim (λ q. inr (old-handed kind x y q)) inl (steps .moves .queued kind x y p);
+        }
+
+    pub fact-tried : {s₃ : State} → Settled n (Grouped starts ends features children) s₂ s₃
+        → Tries n (Grouped starts ends features children) (Said w i j) closed (s₃ .table) (s₃ .queue) (s₃ .tail)
+    fact-tried {s₃} settled =
+        let moves = moves-then (steps .moves) (settled .moves) in
+        let ready = ready-after copy-ready moves in
+        record {
+          shape = moves .shape;
+          grows = λ kind x y p. moves .grows kind x y (rw copied p);
+          framed = settled .framed;
+          descends = settled .descends;
+          given = λ kind x y p. settled .moves .grows kind x y (steps .given kind x y p);
+          within = λ r framed descends old has.
+              settled .within r framed descends
+              (steps .within r framed (λ kind x y p. old kind x y (rw copied at p)) has);
+          room = tail-bound ready;
+          size = ready .size;
+          entries = ready .entries;
+          queued = λ kind x y p. ⊎-elim (λ q. inl (rw copied at q)) inr (moves .queued kind x y p);
+        }
+
+-- an entry more
+module _ (n tail tail′ x y : ℕ) (queue queue′ : List ℕ) (few : n ≤ 128) (h : x < n) (g : y < n)
+    (room : tail < length queue) (moved : tail′ ≡ tail + 1) (pushed : queue′ ≡ set queue tail (x * 256 + y)) where
+  push-here : getD queue′ tail 0 ≡ x * 256 + y
+  push-here = rw pushed (getD-set-same queue tail (x * 256 + y) 0 room)
+
+  push-kept : (k : ℕ) → k < tail → getD queue′ k 0 ≡ getD queue k 0
+  push-kept k b = rw pushed (getD-set-other queue tail k (x * 256 + y) 0 (λ e. omega arith))
+
+  push-entries : ((k : ℕ) → k < tail → Entry n (getD queue k 0)) → (k : ℕ) → k < tail′ → Entry n (getD queue′ k 0)
+  push-entries old k b =
+      last-or-before k tail (omega arith)
+      (λ e. rw (e, push-here) (record { first = omega arith; second = omega arith }))
+      (λ c. rw (push-kept k c) (old k c))
+
+  push-queued : Queued queue′ 0 tail′ x y
+  push-queued =
+      record {
+        at = tail;
+        behind = omega arith;
+        ahead = omega arith;
+        first = ap firstOf push-here ∙ omega arith;
+        second = ap secondOf push-here ∙ omega arith;
+      }
+
+  push-still : {i j : ℕ} → Queued queue 0 tail i j → Queued queue′ 0 tail′ i j
+  push-still q = wider (omega arith) (omega arith) (carried push-kept q)
+
+  push-size : length queue′ ≡ length queue
+  push-size = rw pushed (length-set queue tail (x * 256 + y))
+
+-- the pairs of one variable, with one variable more
+pub subject-start : {n i : ℕ} {queue : List ℕ} → Queueing n i queue → SubjectQueued n i 0 queue 0
+subject-start queueing =
+    record {
+      size = queueing .size;
+      count = omega arith;
+      entries = λ k h. absurd (omega arith);
+      left = λ y h. absurd (omega arith);
+      right = λ y h. absurd (omega arith);
+    }
+
+module _ {n i x tail : ℕ} {queue₀ queue : List ℕ} (queueing : Queueing n i queue₀)
+    (so-far : SubjectQueued n i x queue tail)
+    (h : x < n) where
+  pub subject-room : tail + 1 < 33024
+  subject-room = omega (arith, so-far .count, queueing .few)
+
+  module _ (tail₁ tail₂ : ℕ) (queue₁ queue₂ : List ℕ) (moved₁ : tail₁ ≡ tail + 1)
+      (pushed₁ : queue₁ ≡ set queue tail (i * 256 + x)) (moved₂ : tail₂ ≡ tail₁ + 1)
+      (pushed₂ : queue₂ ≡ set queue₁ tail₁ (x * 256 + i)) where
+    room₁ : tail < length queue
+    room₁ = omega (arith, subject-room, so-far .size)
+
+    size₁ : length queue₁ ≡ length queue
+    size₁ = push-size n tail tail₁ i x queue queue₁ (queueing .few) (queueing .subject) h room₁ moved₁ pushed₁
+
+    room₂ : tail₁ < length queue₁
+    room₂ = omega (arith, subject-room, so-far .size, size₁)
+
+    still : {a b : ℕ} → Queued queue 0 tail a b → Queued queue₂ 0 tail₂ a b
+    still q =
+        push-still n tail₁ tail₂ x i queue₁ queue₂ (queueing .few) h (queueing .subject) room₂ moved₂ pushed₂
+        (push-still n tail tail₁ i x queue queue₁ (queueing .few) (queueing .subject) h room₁ moved₁ pushed₁ q)
+
+    new-left : Queued queue₂ 0 tail₂ i x
+    new-left =
+        push-still n tail₁ tail₂ x i queue₁ queue₂ (queueing .few) h (queueing .subject) room₂ moved₂ pushed₂
+        (push-queued n tail tail₁ i x queue queue₁ (queueing .few) (queueing .subject) h room₁ moved₁ pushed₁)
+
+    new-right : Queued queue₂ 0 tail₂ x i
+    new-right =
+        push-queued n tail₁ tail₂ x i queue₁ queue₂ (queueing .few) h (queueing .subject) room₂ moved₂ pushed₂
+
+    pub subject-next : SubjectQueued n i (x + 1) queue₂ tail₂
+    subject-next =
+        record {
+          size =
+              push-size n tail₁ tail₂ x i queue₁ queue₂ (queueing .few) h (queueing .subject) room₂ moved₂ pushed₂
+              ∙ size₁ ∙ so-far .size;
+          count = omega (arith, so-far .count);
+          entries =
+              push-entries n tail₁ tail₂ x i queue₁ queue₂ (queueing .few) h (queueing .subject) room₂ moved₂ pushed₂
+              (push-entries n tail tail₁ i x queue queue₁ (queueing .few) (queueing .subject) h room₁ moved₁ pushed₁
+              (so-far .entries));
+          left = λ y b. last-or-before y x (omega arith) (λ e. rw e new-left) (λ c. still (so-far .left y c));
+          right = λ y b. last-or-before y x (omega arith) (λ e. rw e new-right) (λ c. still (so-far .right y c));
+        }
+
+pub subject-end : {n i x tail : ℕ} {queue : List ℕ} → x ≤ n → n ≤ x → SubjectQueued n i x queue tail
+    → SubjectQueued n i n queue tail
+subject-end h g so-far =
+    record {
+      size = so-far .size;
+      count = omega (arith, so-far .count);
+      entries = so-far .entries;
+      left = λ y b. so-far .left y (omega arith);
+      right = λ y b. so-far .right y (omega arith);
+    }
