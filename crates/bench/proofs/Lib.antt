@@ -1,0 +1,3 @@
+-- Laws of lists of selections, of their groups, and of questions.
+pub mod Grouped
+pub mod Asked
