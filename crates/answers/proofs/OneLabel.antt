@@ -29,7 +29,7 @@ use Rattle.answers.proofs.Kept.{still, last-stated, stated-of, subjectO
 unfoldable pub meets : Relation → List Statement → ℕ → ℕ → ℕ → Bool
 meets r st i a j = r compatible i j and otherStated st j a
 
-no-label : (kind : Kind) (i j : ℕ) → NoLabelling (fact kind i j)
+pub no-label : (kind : Kind) (i j : ℕ) → NoLabelling (fact kind i j)
 no-label ordered i j = tt
 no-label compatible i j = tt
 

@@ -20,7 +20,7 @@ use Rattle.facts.proofs.Inserting.{has-all}
 use Rattle.facts.proofs.Moving.{moves-none, ready-after}
 use Rattle.facts.proofs.Stepping.{steps-already, steps-as, steps-start, steps-next, Along, along-start, along-next}
 use Rattle.facts.proofs.Stepping.{along-pass, steps-pass, steps-along}
-use Rattle.closure.specs.Descent.{Under, UnderAll, HandedDown, Running, Handing, isNew, Seeking, Sought, Visiting}
+use Rattle.closure.specs.Descent.{Under, UnderAll, HandedDown, Running, Handing, isNew, Seeking, NextNew, Visiting}
 use Rattle.closure.specs.Descent.{Visited}
 
 -- a place that is not new has nothing to tell, and a new one has the feature
@@ -75,7 +75,7 @@ module _ {n : ℕ} {s s′ : State} {starts ends features children : List ℕ} {
       }
 
   -- from one place of it on
-  pub seek-there : getD starts v 0 ≤ k → Seeking n (s′ .table) children w u k (getD ends v 0)
+  pub seek-there : getD starts v 0 ≤ k → Seeking n (s′ .table) children u k (getD ends v 0)
   seek-there from =
       record {
         few = handing .running .ready .few;
@@ -87,7 +87,7 @@ module _ {n : ℕ} {s s′ : State} {starts ends features children : List ℕ} {
 
   -- places that are passed have nothing to tell
   pub passed-told : (f at : ℕ) → getD starts v 0 ≤ k
-      → Sought n (s′ .table) features children w f u k (getD ends v 0) at → (x : ℕ) → k ≤ x → x < at
+      → NextNew n (s′ .table) features children w f u k (getD ends v 0) at → (x : ℕ) → k ≤ x → x < at
       → (kind : Kind) (a b : ℕ) → Under features children w f u x kind a b → Holds (facts n (s′ .table)) kind a b
   passed-told f at from sought x h g =
       not-new n (s′ .table) features children w f u x (moves .shape) (handing .cell) (handing .first)
@@ -213,29 +213,29 @@ module _ {n : ℕ} {s : State} {starts ends features children : List ℕ} {entry
     visit-steps steps = steps-as Seen to-seen from-seen steps
 
 -- a search, place by place
-pub record Searched (n : ℕ) (t features children : List ℕ) (w f i from end at : ℕ) : Type 0 where
+pub record PassedUpto (n : ℕ) (t features children : List ℕ) (w f i from end at : ℕ) : Type 0 where
   pub behind : from ≤ at
   pub inside : (k : ℕ) → from ≤ k → k < at → k < end
   pub passed : (k : ℕ) → from ≤ k → k < at → isNew n t features children w f i k ≡ false
 
 module _ {n : ℕ} {t features children : List ℕ} {w f i from end : ℕ} where
-  pub searched-start : Searched n t features children w f i from end from
-  searched-start =
+  pub passed-start : PassedUpto n t features children w f i from end from
+  passed-start =
       record { behind = omega arith; inside = λ k h g. absurd (omega arith); passed = λ k h g. absurd (omega arith) }
 
-  module _ {at : ℕ} (searched : Searched n t features children w f i from end at) where
-    pub searched-next : at < end → isNew n t features children w f i at ≡ false
-        → Searched n t features children w f i from end (at + 1)
-    searched-next h p =
+  module _ {at : ℕ} (searched : PassedUpto n t features children w f i from end at) where
+    pub passed-next : at < end → isNew n t features children w f i at ≡ false
+        → PassedUpto n t features children w f i from end (at + 1)
+    passed-next h p =
         record {
           behind = omega (arith, searched .behind);
           inside = λ k a b. omega arith;
           passed = λ k a b. last-or-before k at (omega arith) (λ e. rw e p) (λ c. searched .passed k a c);
         }
 
-    pub searched-end : (at < end → isNew n t features children w f i at ≡ true)
-        → Sought n t features children w f i from end at
-    searched-end found =
+    pub passed-end : (at < end → isNew n t features children w f i at ≡ true)
+        → NextNew n t features children w f i from end at
+    passed-end found =
         record {
           behind = searched .behind;
           inside = searched .inside;
@@ -252,14 +252,14 @@ pub record ToldUpto (n : ℕ) (starts ends features children : List ℕ) (w f i 
 
 module _ {n : ℕ} {s : State} {starts ends features children : List ℕ} {w i v : ℕ}
     (handing : Handing n s starts ends features children w i v) where
-  pub seek-first : Seeking n (s .table) children w i (getD starts v 0) (getD ends v 0)
+  pub seek-first : Seeking n (s .table) children i (getD starts v 0) (getD ends v 0)
   seek-first =
       seek-there handing (moves-none s (handing .running .ready .shape)) (handing .running .framed) _ (omega arith)
 
   -- from one place on, once what lies before it is told
   told-pass : {s′ : State} (f k at : ℕ) → Along (getD starts v 0) k (getD ends v 0)
       → Steps n (Among (getD starts v 0) k (Under features children w f i)) s s′
-      → Sought n (s′ .table) features children w f i k (getD ends v 0) at
+      → NextNew n (s′ .table) features children w f i k (getD ends v 0) at
       → ToldUpto n starts ends features children w f i v s s′ at
   told-pass {s′} f k at along steps sought =
       record {
@@ -270,7 +270,7 @@ module _ {n : ℕ} {s : State} {starts ends features children : List ℕ} {w i v
         feature = λ h. new-feature n (s′ .table) features children w f i at (sought .found h);
       }
 
-  pub told-first : (f at : ℕ) → Sought n (s .table) features children w f i (getD starts v 0) (getD ends v 0) at
+  pub told-first : (f at : ℕ) → NextNew n (s .table) features children w f i (getD starts v 0) (getD ends v 0) at
       → ToldUpto n starts ends features children w f i v s s at
   told-first f at sought =
       told-pass f _ at (along-start _ _)
@@ -289,11 +289,11 @@ module _ {n : ℕ} {s : State} {starts ends features children : List ℕ} {w i v
           steps-next (Under features children w f i) _ at (told .along .behind) (told .steps)
           (told-steps features children w f i at x (told .feature h) e steps)
 
-      pub seek-next : Seeking n (s″ .table) children w i (at + 1) (getD ends v 0)
+      pub seek-next : Seeking n (s″ .table) children i (at + 1) (getD ends v 0)
       seek-next = seek-there handing (more .moves) (more .framed) (at + 1) (omega (arith, told .along .behind))
 
       pub told-next : (next : ℕ)
-          → Sought n (s″ .table) features children w f i (at + 1) (getD ends v 0) next
+          → NextNew n (s″ .table) features children w f i (at + 1) (getD ends v 0) next
           → ToldUpto n starts ends features children w f i v s s″ next
       told-next next sought = told-pass f (at + 1) next (along-next (told .along) h) more sought
 

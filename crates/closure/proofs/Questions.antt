@@ -22,9 +22,9 @@ use Rattle.selections.specs.Groups.{Grouped}
 use Rattle.selections.specs.Stands.{Selected, SelectionsStand}
 use Rattle.answers.specs.Cells.{Lent}
 use Rattle.answers.specs.Clashes.{LabelClashTold}
-use Rattle.answers.specs.Labels.{NoLabelling}
 use Rattle.answers.specs.Spreads.{spreadBelow, canClash}
 use Rattle.answers.proofs.Kept.{still, last-stated, stated-of}
+use Rattle.answers.proofs.OneLabel.{no-label}
 use Rattle.answers.proofs.Skip.{skip}
 use Rattle.closure.specs.Trials.{Nothing, WithOne, before, last, Searched, Tried, TryingFact, TryingSelection}
 use Rattle.closure.specs.Trials.{Restored, Asking}
@@ -99,10 +99,6 @@ no-selection : {C : Type 0} (kind : Kind) (i j x f y : ℕ) → selection x f y 
 unfolding kindNumber
 no-selection ordered i j x f y e = absurd (omega (arith, ap kindNumber e))
 no-selection compatible i j x f y e = absurd (omega (arith, ap kindNumber e))
-
-no-label : (kind : Kind) (i j : ℕ) → NoLabelling (fact kind i j)
-no-label ordered i j = tt
-no-label compatible i j = tt
 
 -- a fact
 fact-states : {n : ℕ} {st : List Statement} {selected : Selected} (kind : Kind) (i j : ℕ)

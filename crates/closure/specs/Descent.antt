@@ -41,7 +41,7 @@ pub record Handing (n : ℕ) (s : State) (starts ends features children : List �
   pub second : v < n
 
 -- the child at place k may be asked
-pub record Telling (n : ℕ) (t children : List ℕ) (w i k : ℕ) : Type 0 where
+pub record Telling (n : ℕ) (t children : List ℕ) (i k : ℕ) : Type 0 where
   pub few : n ≤ 128
   pub shape : Shape n t
   pub child : i < n
@@ -54,7 +54,7 @@ isNew n t features children w f i k =
     pick (same (getD features k 0) f) (isLacking (cellAt n t i (getD children k 0)) w) false
 
 -- the children at each place up to an end may be asked
-pub record Seeking (n : ℕ) (t children : List ℕ) (w i from end : ℕ) : Type 0 where
+pub record Seeking (n : ℕ) (t children : List ℕ) (i from end : ℕ) : Type 0 where
   pub few : n ≤ 128
   pub shape : Shape n t
   pub child : i < n
@@ -62,7 +62,7 @@ pub record Seeking (n : ℕ) (t children : List ℕ) (w i from end : ℕ) : Type
   pub others : (k : ℕ) → from ≤ k → k < end → getD children k 0 < n
 
 -- the first such place from one on, if there is one before the end
-pub record Sought (n : ℕ) (t features children : List ℕ) (w f i from end at : ℕ) : Type 0 where
+pub record NextNew (n : ℕ) (t features children : List ℕ) (w f i from end at : ℕ) : Type 0 where
   pub behind : from ≤ at
   pub inside : (k : ℕ) → from ≤ k → k < at → k < end
   pub passed : (k : ℕ) → from ≤ k → k < at → isNew n t features children w f i k ≡ false

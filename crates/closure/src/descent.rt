@@ -10,7 +10,7 @@ ghost use mathlib.Core.Path.{_≡_};
 ghost use Rattle.facts.specs.Queue.{state};
 ghost use Rattle.facts.specs.Additions.{Steps};
 ghost use Rattle.selections.specs.Groups.{Grouped};
-ghost use Rattle.closure.specs.Descent.{UnderAll, HandedDown, Handing, Telling, isNew, Seeking, Sought};
+ghost use Rattle.closure.specs.Descent.{UnderAll, HandedDown, Handing, Telling, isNew, Seeking, NextNew};
 ghost use Rattle.closure.specs.Descent.{Visiting, Visited};
 ghost use Rattle.closure.specs.Settled.{Starting, Settled};
 
@@ -25,7 +25,7 @@ fn is_new(
     children: &[u8; 1152],
     at: usize,
 ) -> bool
-    requires { ⌜ Telling n (now t) (now children) w i at ⌝ }
+    requires { ⌜ Telling n (now t) (now children) i at ⌝ }
     ensures { λ r. ⌜ r ≡ isNew n (now (t .entry)) (now (features .entry)) (now (children .entry)) w f i at ⌝ }
 {
     if features[at] != f {
@@ -46,8 +46,8 @@ fn seek(
     from: usize,
     end: usize,
 ) -> usize
-    requires { ⌜ Seeking n (now t) (now children) w i from end ⌝ }
-    ensures { λ r. ⌜ Sought n (now (t .entry)) (now (features .entry)) (now (children .entry)) w f i from end r ⌝ }
+    requires { ⌜ Seeking n (now t) (now children) i from end ⌝ }
+    ensures { λ r. ⌜ NextNew n (now (t .entry)) (now (features .entry)) (now (children .entry)) w f i from end r ⌝ }
 {
     let mut at = from;
     while at < end {

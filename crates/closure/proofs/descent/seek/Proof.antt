@@ -2,18 +2,18 @@
 use Prim.Native.Nat.{_-_}
 use mathlib.Core.Path.{sym, _∙_}
 use native.Mathlib.Omega.{arith}
-use Rattle.closure.proofs.Descending.{Searched, searched-start, searched-next, searched-end}
+use Rattle.closure.proofs.Descending.{PassedUpto, passed-start, passed-next, passed-end}
 use Rattle.closure.proofs.descent.seek.Statement.{statement}
 use Rattle.closure.proofs.descent.seek.Tie as tie
 
 abbrev Inv-loop : tie.InvT-loop
-Inv-loop t n w f i features children from end at₀ at = Searched n t features children w f i from end at
+Inv-loop t n w f i features children from end at₀ at = PassedUpto n t features children w f i from end at
 
 abbrev μ-loop : tie.MeasureT-loop
 μ-loop t n w f i features children from end at₀ at = end - at
 
 loop-holds : tie.Need-loop-holds Inv-loop μ-loop
-loop-holds c = searched-start
+loop-holds c = passed-start
 
 is-new-requires : tie.Need-is-new-requires Inv-loop μ-loop
 is-new-requires c κs =
@@ -27,7 +27,7 @@ is-new-requires c κs =
     }
 
 returns : tie.Need-returns Inv-loop μ-loop
-returns c = searched-end (c .before .before .before .loop .inv) (λ h. sym (c .before .is-new .ensures) ∙ c .if1 .taken)
+returns c = passed-end (c .before .before .before .loop .inv) (λ h. sym (c .before .is-new .ensures) ∙ c .if1 .taken)
 
 add-at : tie.Need-add-at Inv-loop μ-loop
 add-at c =
@@ -43,11 +43,11 @@ loop-again c =
     let at-is-new = c .before in
     let at-loop-test = at-is-new .before in
     let at-loop = at-loop-test .before in
-    searched-next (at-loop .loop .inv) (at-loop-test .loop-test .taken)
+    passed-next (at-loop .loop .inv) (at-loop-test .loop-test .taken)
     (sym (at-is-new .is-new .ensures) ∙ c .if1 .left)
 
 returns-2 : tie.Need-returns-2 Inv-loop μ-loop
-returns-2 c = searched-end (c .before .loop .inv) (λ h. absurd (omega (arith, c .loop-test .left)))
+returns-2 c = passed-end (c .before .loop .inv) (λ h. absurd (omega (arith, c .loop-test .left)))
 
 pub seek-spec : {M : Type 1} → statement M
 seek-spec =
