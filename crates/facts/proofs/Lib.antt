@@ -10,3 +10,4 @@ pub mod Stepping
 pub mod Takes
 pub mod Pairs
 pub mod Inserting
+pub mod Restores

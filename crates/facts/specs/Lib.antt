@@ -3,3 +3,4 @@ pub mod Cells
 pub mod Queue
 pub mod Additions
 pub mod Insertion
+pub mod Restoring

@@ -1,6 +1,7 @@
 // Facts: the table of facts behind its accessors, the queue of changed cells, and the insertion of a fact by F1 and F3.
 mod insertion;
 mod queue;
+mod restoring;
 mod table;
 
 pub use insertion::insert;
@@ -9,6 +10,7 @@ pub use queue::ROOM;
 pub use queue::first_of;
 pub use queue::push;
 pub use queue::second_of;
+pub use restoring::restore;
 pub use table::clear;
 pub use table::copy;
 pub use table::lacks;
