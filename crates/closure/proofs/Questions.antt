@@ -11,24 +11,26 @@ use Rattle.sheet.specs.declared.numbers.Label.{Label}
 use Rattle.sheet.specs.declared.numbers.Variable.{Variable}
 use Rattle.sheet.specs.Statements.{Names}
 use Rattle.sheet.specs.Tests.{less, same}
+use Rattle.rules.specs.declared.clashes.Clash.{Clash}
 use Rattle.rules.specs.Connectives.{_or_}
 use Rattle.rules.specs.Stated.{selection, labelling, Stated}
 use Rattle.rules.specs.Facts.{Kind, ordered, compatible, fact}
-use Rattle.rules.specs.Tables.{says}
+use Rattle.rules.specs.Tables.{says, facts}
+use Rattle.rules.specs.Clashes.{clashInRows, clashOf, isClash, clashes}
 use Rattle.rules.proofs.Lists.{all-with}
 use Rattle.rules.proofs.Logic.{contrary}
 use Rattle.facts.specs.Additions.{Said}
 use Rattle.selections.specs.Groups.{Grouped}
 use Rattle.selections.specs.Stands.{Selected, SelectionsStand}
 use Rattle.answers.specs.Cells.{Lent}
-use Rattle.answers.specs.Clashes.{LabelClashTold}
+use Rattle.answers.specs.Clashes.{ClashTold, LabelClashTold}
 use Rattle.answers.specs.Spreads.{spreadBelow, canClash}
 use Rattle.answers.proofs.Kept.{still, last-stated, stated-of}
 use Rattle.answers.proofs.OneLabel.{no-label}
 use Rattle.answers.proofs.Skip.{skip}
 use Rattle.closure.specs.Trials.{Nothing, WithOne, before, last, Searched, Tried, TryingFact, TryingSelection}
-use Rattle.closure.specs.Trials.{Restored, Asking}
-use Rattle.closure.proofs.Tried.{States, tried-table, tried-answer}
+use Rattle.closure.specs.Trials.{Restored, Standing, Consistent, Asking}
+use Rattle.closure.proofs.Tried.{States, still-clashes, tried-answer}
 
 -- the fields of a statement, and the number of its kind
 kindNumber : Statement → ℕ
@@ -95,6 +97,10 @@ unfolding rightOf
 right-fact ordered i j = refl
 right-fact compatible i j = refl
 
+fact-names : {n : ℕ} (kind : Kind) (i j : ℕ) → Names n (fact kind i j) → (i < n) × (j < n)
+fact-names ordered i j names = names
+fact-names compatible i j names = names
+
 no-selection : {C : Type 0} (kind : Kind) (i j x f y : ℕ) → selection x f y ≡ fact kind i j → C
 unfolding kindNumber
 no-selection ordered i j x f y e = absurd (omega (arith, ap kindNumber e))
@@ -152,77 +158,92 @@ read-label : {q : Statement} {i : Variable} {a : Label} {x : ℕ} → q ≡ Stat
     → q ≡ labelling x (a .0)
 read-label {a = a} e g = e ∙ ap (λ k. labelling k (a .0)) (sym g)
 
--- what each kind tells, of statements that stand in the arrays
-module _ {n : ℕ} {closed starts ends features children counts labels t : List ℕ} where
-  pub fact-told : {t′ : List ℕ} {r : Bool} (kind : Kind) (i j : ℕ) (q : Statement) → q ≡ fact kind i j → Names n q
-      → Searched n (Grouped starts ends features children) (Said (cellOf kind) i j) closed counts labels t′ r
-      → Tried n closed starts ends features children counts labels true q t t′ r
-  fact-told ordered i j q e names searched =
+-- what each kind tells, of statements that stand in the arrays and do not clash
+module _ {n : ℕ} {closed starts ends features children counts labels : List ℕ} where
+  pub fact-told : {r : Bool} (kind : Kind) (i j : ℕ) (q : Statement) → q ≡ fact kind i j → Names n q
+      → Searched n (Grouped starts ends features children) (Said (cellOf kind) i j) closed counts labels r
+      → Tried n (Consistent n closed starts ends features children counts labels) q r
+  fact-told kind i j q e names searched =
       rw e (record {
         answer = λ st consistent.
-            tried-answer consistent (rw e at names) (fact-states ordered i j (consistent .selections)) searched;
-        table = λ st consistent.
-            tried-table consistent (rw e at names) (fact-states ordered i j (consistent .selections)) searched;
-      })
-  fact-told compatible i j q e names searched =
-      rw e (record {
-        answer = λ st consistent.
-            tried-answer consistent (rw e at names) (fact-states compatible i j (consistent .selections)) searched;
-        table = λ st consistent.
-            tried-table consistent (rw e at names) (fact-states compatible i j (consistent .selections)) searched;
+            tried-answer consistent (rw e at names) (fact-states kind i j (consistent .stands .selections)) searched;
       })
 
-  pub selection-told : {t′ : List ℕ} {r : Bool} {i : Variable} {f : Feature} {j : Variable} (x : ℕ) (q : Statement)
+  pub selection-told : {r : Bool} {i : Variable} {f : Feature} {j : Variable} (x : ℕ) (q : Statement)
       → q ≡ Statement.Selection i f j → x ≡ i .0 → Names n q
-      → Searched n (WithOne (Grouped starts ends features children) x (f .0) (j .0)) Nothing closed counts labels t′ r
-      → Tried n closed starts ends features children counts labels true q t t′ r
-  selection-told {t′} {r} {i} {f} {j} x q d g names searched =
+      → Searched n (WithOne (Grouped starts ends features children) x (f .0) (j .0)) Nothing closed counts labels r
+      → Tried n (Consistent n closed starts ends features children counts labels) q r
+  selection-told {r} {i} {f} {j} x q d g names searched =
       let e = read-selection d g in
       rw e (record {
         answer = λ st consistent.
-            tried-answer consistent (rw e at names) (selection-states x (f .0) (j .0) (consistent .selections))
+            tried-answer consistent (rw e at names) (selection-states x (f .0) (j .0) (consistent .stands .selections))
             searched;
-        table = λ st consistent.
-            tried-table consistent (rw e at names) (selection-states x (f .0) (j .0) (consistent .selections)) searched;
       })
 
   pub label-told : {r : Bool} {i : Variable} {a : Label} (x : ℕ) (q : Statement) → q ≡ Statement.Labelling i a
-      → x ≡ i .0 → LabelClashTold n closed counts labels x (a .0) r
-      → Tried n closed starts ends features children counts labels true q t t r
+      → x ≡ i .0 → LabelClashTold n closed counts labels x (a .0) r → Tried n (Consistent n closed starts ends features children counts labels) q r
   label-told x q d g told =
       rw (read-label d g) (record {
         answer = λ st consistent.
-            told .told st (consistent .labelled) (consistent .names) (consistent .derives) (consistent .clear);
-        table = λ st consistent. refl;
+            let stands = consistent .stands in
+            told .told st (stands .labelled) (stands .names) (stands .derives) (consistent .clear);
       })
 
   -- and where nothing is tried
   pub skip-told : (q : Statement) → Names n q → canClash (spreadBelow n counts labels) q ≡ false
-      → Tried n closed starts ends features children counts labels false q t t false
+      → Tried n (Consistent n closed starts ends features children counts labels) q false
   skip-told q names e =
       record {
         answer = λ st consistent.
-            sym (skip (consistent .labelled) q (all-with (Names n) st q (consistent .names) names) e);
-        table = λ st consistent. refl;
+            let stands = consistent .stands in
+            sym (skip (stands .labelled) q (all-with (Names n) st q (stands .names) names) e);
+      }
+
+-- all statements that stand in the arrays: where they clash, they clash with q
+module _ {n : ℕ} {closed starts ends features children counts labels : List ℕ} {clash : Clash}
+    (found : ClashTold n closed counts labels clash) (q : Statement) (names : Names n q) where
+  of-statements : (st : List Statement) → Standing n closed starts ends features children counts labels st
+      → isClash clash ≡ clashes st n
+  unfolding clashOf clashes
+  of-statements st stands =
+      ap isClash (found .told st (stands .labelled) ∙ ap (λ u. clashInRows n 0 n st (facts n u)) (stands .derives))
+
+  pub clash-stays : isClash clash ≡ true → Tried n (Standing n closed starts ends features children counts labels) q true
+  clash-stays p =
+      record {
+        answer = λ st stands.
+            sym (still-clashes n st q (stands .names) names (sym (of-statements st stands) ∙ p));
+      }
+
+  pub all-told : {r : Bool} → isClash clash ≡ false
+      → Tried n (Consistent n closed starts ends features children counts labels) q r
+      → Tried n (Standing n closed starts ends features children counts labels) q r
+  all-told p tried =
+      record {
+        answer = λ st stands.
+            tried .answer st (record { stands = stands; clear = sym (of-statements st stands) ∙ p });
       }
 
 -- what each kind asks
 module _ {n : ℕ} {closed t queue starts ends features children : List ℕ} {q : Statement}
     (asking : Asking n closed t queue starts ends features children q) where
   pub ask-fact : (kind : Kind) (i j : ℕ) → q ≡ fact kind i j
-      → TryingFact n closed t queue starts ends features children (cellOf kind) i j
-  ask-fact ordered i j e =
-      let names = rw e at (asking .names) in
-      record { trying = asking .trying; cell = cell-small ordered; first = names .0; second = names .1 }
-  ask-fact compatible i j e =
-      let names = rw e at (asking .names) in
-      record { trying = asking .trying; cell = cell-small compatible; first = names .0; second = names .1 }
+      → TryingFact n t queue starts ends features children (cellOf kind) i j
+  ask-fact kind i j e =
+      let names = fact-names kind i j (rw e at (asking .names)) in
+      record {
+        trying = rw (asking .copied) (asking .trying);
+        cell = cell-small kind;
+        first = names .0;
+        second = names .1;
+      }
 
   pub ask-selection : {i : Variable} {f : Feature} {j : Variable} (x : ℕ) → q ≡ Statement.Selection i f j → x ≡ i .0
-      → TryingSelection n closed t queue starts ends features children x (j .0)
+      → TryingSelection n t queue starts ends features children x (j .0)
   ask-selection x d g =
       let names = rw (read-selection d g) at (asking .names) in
-      record { trying = asking .trying; subject = names .0; child = names .1 }
+      record { trying = rw (asking .copied) (asking .trying); subject = names .0; child = names .1 }
 
   pub ask-label : {i : Variable} {a : Label} (x : ℕ) → q ≡ Statement.Labelling i a → x ≡ i .0 → Lent n closed × (x < n)
   ask-label x d g =

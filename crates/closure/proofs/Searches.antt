@@ -6,16 +6,16 @@ use mathlib.Core.List.{List}
 use mathlib.Core.Path.{_≡_, refl, sym, ap, _∙_}
 use native.Mathlib.Omega.{arith}
 use Rattle.sheet.specs.declared.items.Statement.{Statement}
-use Rattle.rules.specs.Stated.{anyBelow}
 use Rattle.rules.specs.Facts.{compatible}
 use Rattle.rules.specs.Tables.{says, cellAt, facts}
 use Rattle.rules.specs.Clashes.{clashesAt}
+use Rattle.rules.proofs.Logic.{contrary, last-or-before}
 use Rattle.rules.proofs.Tables.{fact-said}
 use Rattle.facts.specs.Cells.{Cell}
 use Rattle.facts.specs.Queue.{firstOf, secondOf}
 use Rattle.answers.specs.Labels.{LabelsStand, DifferTold}
-use Rattle.answers.proofs.Logic.{fails-first, second-decides, found-below, on-below, over-below}
-use Rattle.closure.specs.Trials.{Searching, entryClashes, EntryTold, Sought, QueueTold}
+use Rattle.answers.proofs.Logic.{fails-first, second-decides}
+use Rattle.closure.specs.Trials.{Searching, entryClashes, EntryTold, Sought, QueuedClash, QueueTold}
 
 -- one entry, whose variables were taken from it
 module _ {n : ℕ} {t : List ℕ} {entry : ℕ} (searching : Searching n t entry) (i j : ℕ) (first : i ≡ firstOf entry)
@@ -56,35 +56,55 @@ module _ {n : ℕ} {t : List ℕ} {entry : ℕ} (searching : Searching n t entry
     entry-clear p =
         record { told = λ st stand. rw (← first, ← second) (sym (fails-first _ (of-cell ∙ p))) }
 
-pub searching-at : {n : ℕ} {t queue : List ℕ} {tail : ℕ} → Sought n t queue tail → (k : ℕ) → k < tail
+pub searching-at : {n : ℕ} {t queue : List ℕ} {from tail : ℕ} → Sought n t queue from tail → (k : ℕ) → k < tail
     → Searching n t (getD queue k 0)
 searching-at sought k h = record { few = sought .few; shape = sought .shape; pair = sought .entries k h }
 
--- from the last entry down
-pub record Unseen (n : ℕ) (t counts labels queue : List ℕ) (tail left : ℕ) : Type 0 where
+-- from the last entry down: F5 applies to none of those that were seen
+pub record Seen (n : ℕ) (t counts labels queue : List ℕ) (from tail left : ℕ) : Type 0 where
+  pub begin : from ≤ left
   pub bound : left ≤ tail
-  pub rest : (st : List Statement) → LabelsStand n st counts labels
-      → anyBelow left (λ k. entryClashes n t st (getD queue k 0)) ≡ anyBelow tail
-      (λ k. entryClashes n t st (getD queue k 0))
+  pub clear : (st : List Statement) → LabelsStand n st counts labels → (k : ℕ) → left ≤ k → k < tail
+      → entryClashes n t st (getD queue k 0) ≡ false
 
-pub unseen-start : {n tail : ℕ} {t counts labels queue : List ℕ} → Unseen n t counts labels queue tail tail
-unseen-start = record { bound = omega arith; rest = λ st stand. refl }
+pub seen-none : {n from tail : ℕ} {t counts labels queue : List ℕ} → from ≤ tail
+    → Seen n t counts labels queue from tail tail
+seen-none h = record { begin = h; bound = omega arith; clear = λ st stand k a b. absurd (omega arith) }
 
-module _ {n tail left : ℕ} {t counts labels queue : List ℕ} (unseen : Unseen n t counts labels queue tail left) where
-  pub unseen-none : left ≤ 0 → QueueTold n t counts labels queue tail false
-  unseen-none h =
-      record { told = λ st stand. sym (over-below _ left h) ∙ unseen .rest st stand }
-
-  module _ (h : 0 < left) {r : Bool} (told : EntryTold n t counts labels (getD queue (left - 1) 0) r) where
-    pub unseen-found : r ≡ true → QueueTold n t counts labels queue tail true
-    unseen-found p =
+module _ {n from tail left : ℕ} {t counts labels queue : List ℕ} (seen : Seen n t counts labels queue from tail left)
+  where
+    pub seen-all : left ≤ from → QueueTold n t counts labels queue from tail false
+    seen-all h =
         record {
-          told = λ st stand. sym (found-below _ left h (sym (told .told st stand) ∙ p)) ∙ unseen .rest st stand;
+          told = λ st stand. (
+            λ p. absurd (contrary p refl),
+            λ e. absurd (contrary (e .applies) (seen .clear st stand (e .at) (omega (arith, e .behind)) (e .ahead))),
+          );
         }
 
-    pub unseen-next : r ≡ false → Unseen n t counts labels queue tail (left - 1)
-    unseen-next p =
-        record {
-          bound = omega (arith, unseen .bound);
-          rest = λ st stand. on-below _ left h (sym (told .told st stand) ∙ p) ∙ unseen .rest st stand;
-        }
+    module _ (h : from < left) {r : Bool} (told : EntryTold n t counts labels (getD queue (left - 1) 0) r) where
+      pub seen-clash : r ≡ true → QueueTold n t counts labels queue from tail true
+      seen-clash p =
+          record {
+            told = λ st stand. (
+              λ q.
+                  record {
+                    at = left - 1;
+                    behind = omega arith;
+                    ahead = omega (arith, seen .bound);
+                    applies = sym (told .told st stand) ∙ p;
+                  },
+              λ e. refl,
+            );
+          }
+
+      pub seen-next : r ≡ false → Seen n t counts labels queue from tail (left - 1)
+      seen-next p =
+          record {
+            begin = omega arith;
+            bound = omega (arith, seen .bound);
+            clear = λ st stand k a b.
+                last-or-before (left - 1) k (omega arith)
+                (λ e. rw (← e) (sym (told .told st stand) ∙ p))
+                (λ c. seen .clear st stand k (omega arith) b);
+          }

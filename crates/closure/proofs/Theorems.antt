@@ -23,7 +23,7 @@ use Rattle.answers.specs.Labels.{LabelsStand}
 use Rattle.answers.specs.Supports.{SingleLabels, SupportTold}
 use Rattle.answers.proofs.OneLabel.{single-labels}
 use Rattle.closure.specs.Stands.{PairsStand, Pairs, Deriving, DerivedFrom}
-use Rattle.closure.specs.Trials.{Consistent, Tried, Asking}
+use Rattle.closure.specs.Trials.{Standing, Tried, Asking}
 use Rattle.closure.proofs.Equal.{derived-framed, derived-descends}
 
 -- groups made of a selection list that holds the selections of st
@@ -58,44 +58,41 @@ module _ {n : ℕ} {st : List Statement} {subjects features children starts₀ e
           → r ≡ supported st (factsOf st n) q
       support-is q r told = told .told st stand labelled ∙ ap (λ u. supported st (facts n u) q) is-derived-table
 
-      -- where no clash is told, questions may be tried
-      module _ (nowhere : ClashTold n t counts labels Clash.Nowhere) where
-        no-clash : clashes st n ≡ false
-        unfolding clashes
-        no-clash = sym (ap isClash (clash-is Clash.Nowhere nowhere))
+      pub stands : Standing n t starts ends group-features group-children counts labels st
+      stands =
+          record {
+            names = names;
+            derives = is-derived-table;
+            selections = made-stand lawful grouping stand;
+            labelled = labelled;
+          }
 
-        pub one-label-each : SingleLabels n counts
-        one-label-each = single-labels labelled names no-clash
+      pub trial-is : (q : Statement) (r : Bool)
+          → Tried n (Standing n t starts ends group-features group-children counts labels) q r
+          → r ≡ clashes (st ++ (q ∷ [])) n
+      trial-is q r tried = tried .answer st stands
 
-        pub consistent : Consistent n st t starts ends group-features group-children counts labels
-        consistent =
-            record {
-              names = names;
-              derives = is-derived-table;
-              selections = made-stand lawful grouping stand;
-              labelled = labelled;
-              clear = no-clash;
-            }
+      -- where no clash is told
+      pub one-label-each : ClashTold n t counts labels Clash.Nowhere → SingleLabels n counts
+      unfolding clashes
+      one-label-each nowhere =
+          single-labels labelled names (sym (ap isClash (clash-is Clash.Nowhere nowhere)))
 
-        pub may-ask : (work queue : List ℕ) (q : Statement) → length work ≡ n * n → length queue ≡ 33024 → Names n q
-            → Asking n t work queue starts ends group-features group-children q
-        may-ask work queue q size room named =
-            record {
-              trying =
-                  record {
-                    few = lawful .few;
-                    shape = rw is-derived-table (derived-shape n st);
-                    framed = rw is-derived-table (derived-framed n st names);
-                    descends = rw is-derived-table (derived-descends n st names (made-stand lawful grouping stand));
-                    size = size;
-                    queue-size = room;
-                    groups = made-groups lawful grouping;
-                    spare = made-spare lawful grouping;
-                  };
-              names = named;
-            }
-
-        pub trial-is : (can : Bool) (q : Statement) (work work′ : List ℕ) (r : Bool)
-            → Tried n t starts ends group-features group-children counts labels can q work work′ r
-            → r ≡ clashes (st ++ (q ∷ [])) n
-        trial-is can q work work′ r tried = tried .answer st consistent
+    -- a question may be tried in a copy of the table
+    pub may-ask : (work queue : List ℕ) (q : Statement) → work ≡ t → length queue ≡ 33024 → Names n q
+        → Asking n t work queue starts ends group-features group-children q
+    may-ask work queue q copied room named =
+        record {
+          copied = copied;
+          trying =
+              record {
+                few = lawful .few;
+                shape = rw is-derived-table (derived-shape n st);
+                framed = rw is-derived-table (derived-framed n st names);
+                descends = rw is-derived-table (derived-descends n st names (made-stand lawful grouping stand));
+                queue-size = room;
+                groups = made-groups lawful grouping;
+                spare = made-spare lawful grouping;
+              };
+          names = named;
+        }

@@ -2,70 +2,72 @@
 use Prim.Native.Nat.{ℕ, _+_, _*_, _<_, _≤_}
 use lib.ListN.{length, getD, set, length-set}
 use lib.Seq.{getD-set-same, getD-set-other}
+use mathlib.Core.Bool.{Bool}
 use mathlib.Core.List.{List}
 use mathlib.Core.Logic.{_⊎_, inl, inr, ⊎-elim}
 use mathlib.Core.Path.{_≡_, ap, _∙_}
 use native.Mathlib.Nat.{mul-le-mul}
 use native.Mathlib.Omega.{arith}
 use Rattle.rules.specs.Facts.{Kind, Holds}
-use Rattle.rules.specs.Tables.{facts}
+use Rattle.rules.specs.Tables.{facts, Shape}
 use Rattle.rules.proofs.Logic.{last-or-before}
 use Rattle.rules.proofs.Tables.{fact-row, fact-column}
 use Rattle.facts.specs.Queue.{firstOf, secondOf, State, state, Queued, Entry, Ready}
-use Rattle.facts.specs.Additions.{Said, Steps}
+use Rattle.facts.specs.Additions.{Facts, Said, Steps}
 use Rattle.facts.specs.Insertion.{Inserting}
+use Rattle.facts.specs.Restoring.{Restoring}
 use Rattle.facts.proofs.Moving.{wider, carried, moves-then, ready-after}
 use Rattle.selections.specs.Groups.{Grouped}
+use Rattle.selections.specs.Stands.{Selected}
 use Rattle.closure.specs.Settled.{Handed, Starting, Settled}
-use Rattle.closure.specs.Trials.{Trying, TryingFact, Tries, Queueing, SubjectQueued}
+use Rattle.closure.specs.Trials.{Trying, TryingFact, Tries, Queueing, SubjectQueued, Sought, QueueTold, Searched}
 use Rattle.closure.proofs.Runs.{tail-bound, handed-on}
 
 -- as many entries as the pairs of one variable leave room for all facts
 pub few-entries : (n tail count : ℕ) → n ≤ 128 → tail ≤ 2 * n → tail + 2 * (n * n) ≤ 33024 + count
 few-entries n tail count few h = omega (arith, mul-le-mul few few)
 
-module _ {n : ℕ} {closed t queue starts ends features children : List ℕ} {w i j : ℕ}
-    (trying : TryingFact n closed t queue starts ends features children w i j) (t₁ : List ℕ)
-    (copied : t₁ ≡ closed) where
-  abbrev given-to : Trying n closed t queue starts ends features children
+module _ {n : ℕ} {t queue starts ends features children : List ℕ} {w i j : ℕ}
+    (trying : TryingFact n t queue starts ends features children w i j) where
+  abbrev given-to : Trying n t queue starts ends features children
   given-to = trying .trying
 
-  copy-ready : Ready n (state t₁ queue 0)
-  copy-ready =
+  fact-ready : Ready n (state t queue 0)
+  fact-ready =
       record {
         few = given-to .few;
-        shape = rw copied (given-to .shape);
+        shape = given-to .shape;
         size = given-to .queue-size;
         room = few-entries n 0 _ (given-to .few) (omega arith);
         entries = λ k h. absurd (omega arith);
       }
 
-  pub fact-insert : Inserting n (state t₁ queue 0) w i j
+  pub fact-insert : Inserting n (state t queue 0) w i j
   fact-insert =
       record {
         taking =
             record {
-              ready = copy-ready;
+              ready = fact-ready;
               first = trying .first;
               second = trying .second;
               cell = trying .cell;
             };
-        framed = rw copied (given-to .framed);
+        framed = given-to .framed;
       }
 
-  module _ {s₂ : State} (steps : Steps n (Said w i j) (state t₁ queue 0) s₂) where
-    old-handed : (kind : Kind) (x y : ℕ) → Holds (facts n t₁) kind x y
-        → Handed (Grouped starts ends features children) (facts n (s₂ .table)) kind x y
+  module _ {s₁ : State} (steps : Steps n (Said w i j) (state t queue 0) s₁) where
+    old-handed : (kind : Kind) (x y : ℕ) → Holds (facts n t) kind x y
+        → Handed (Grouped starts ends features children) (facts n (s₁ .table)) kind x y
     old-handed kind x y p =
-        handed-on (steps .moves .grows) (rw copied
-        (given-to .descends kind x y (fact-row n t₁ kind x y p) (fact-column n t₁ kind x y p) (rw copied at p)))
+        handed-on (steps .moves .grows)
+        (given-to .descends kind x y (fact-row n t kind x y p) (fact-column n t kind x y p) p)
 
-    pub fact-run : Starting n s₂ starts ends features children
+    pub fact-run : Starting n s₁ starts ends features children
     fact-run =
         record {
           running =
               record {
-                ready = ready-after copy-ready (steps .moves);
+                ready = ready-after fact-ready (steps .moves);
                 framed = steps .framed;
                 groups = given-to .groups;
               };
@@ -73,24 +75,64 @@ module _ {n : ℕ} {closed t queue starts ends features children : List ℕ} {w 
               ⊎-elim (λ q. inr (old-handed kind x y q)) inl (steps .moves .queued kind x y p);
         }
 
-    pub fact-tried : {s₃ : State} → Settled n (Grouped starts ends features children) s₂ s₃
-        → Tries n (Grouped starts ends features children) (Said w i j) closed (s₃ .table) (s₃ .queue) (s₃ .tail)
-    fact-tried {s₃} settled =
+    pub fact-tried : {s₂ : State} → Settled n (Grouped starts ends features children) s₁ s₂
+        → Tries n (Grouped starts ends features children) (Said w i j) t (s₂ .table) (s₂ .queue) 0 (s₂ .tail)
+    fact-tried {s₂} settled =
         let moves = moves-then (steps .moves) (settled .moves) in
-        let ready = ready-after copy-ready moves in
+        let ready = ready-after fact-ready moves in
         record {
           shape = moves .shape;
-          grows = λ kind x y p. moves .grows kind x y (rw copied p);
+          grows = moves .grows;
           framed = settled .framed;
           descends = settled .descends;
           given = λ kind x y p. settled .moves .grows kind x y (steps .given kind x y p);
           within = λ r framed descends old has.
-              settled .within r framed descends
-              (steps .within r framed (λ kind x y p. old kind x y (rw copied at p)) has);
+              settled .within r framed descends (steps .within r framed old has);
+          begin = moves .later;
           room = tail-bound ready;
           size = ready .size;
           entries = ready .entries;
-          queued = λ kind x y p. ⊎-elim (λ q. inl (rw copied at q)) inr (moves .queued kind x y p);
+          queued = moves .queued;
+        }
+
+-- what is new by a trial in a copy of the closed table can be searched, and taken back
+module _ {n : ℕ} {selected : Selected} {P : Facts} {t₀ t queue : List ℕ} {from tail : ℕ}
+    (tries : Tries n selected P t₀ t queue from tail) where
+  pub may-search : n ≤ 128 → Sought n t queue from tail
+  may-search few =
+      record {
+        few = few;
+        shape = tries .shape;
+        begin = tries .begin;
+        room = tries .room;
+        entries = tries .entries;
+      }
+
+  module _ {closed : List ℕ} (copied : t₀ ≡ closed) where
+    pub may-restore : n ≤ 128 → Shape n t₀ → Restoring n closed t queue from tail
+    may-restore few shape =
+        rw (← copied) (record {
+          few = few;
+          shape = shape;
+          grown = tries .shape;
+          grows = tries .grows;
+          size = tries .size;
+          begin = tries .begin;
+          room = tries .room;
+          entries = tries .entries;
+          queued = tries .queued;
+        })
+
+    pub searched-so : {counts labels : List ℕ} {r : Bool} → QueueTold n t counts labels queue from tail r
+        → Searched n selected P closed counts labels r
+    searched-so found =
+        record {
+          table = t;
+          queue = queue;
+          from = from;
+          tail = tail;
+          tries = rw (← copied) tries;
+          found = found;
         }
 
 -- an entry more

@@ -1,4 +1,4 @@
-// Trials: whether one statement more would clash with statements that do not clash.
+// Trials: whether one statement more would clash.
 use crate::descent::run;
 use crate::numbers::wide;
 use answers::Spread;
@@ -6,30 +6,31 @@ use answers::can_clash;
 use answers::label_clashes;
 use answers::labels_differ;
 use facts::ROOM;
-use facts::copy;
 use facts::first_of;
 use facts::insert;
 use facts::look;
 use facts::push;
+use facts::restore;
 use facts::says_compatible;
 use facts::second_of;
+use rules::Clash;
 use selections::put;
 use selections::take_out;
 use sheet::Statement;
-ghost use mathlib.Core.Bool.{true};
+ghost use Prim.Native.Nat.{_*_};
 ghost use lib.ListN.{length};
 ghost use mathlib.Core.Path.{_≡_};
+ghost use Rattle.rules.specs.Clashes.{isClash};
 ghost use Rattle.facts.specs.Additions.{Said};
 ghost use Rattle.selections.specs.Groups.{Grouped};
-ghost use Rattle.answers.specs.Spreads.{spreadBelow, canClash};
-ghost use Rattle.closure.specs.Trials.{TryingFact, TryingSelection, Tries, SelectionTried, Restored, Queueing};
+ghost use Rattle.answers.specs.Clashes.{ClashTold};
+ghost use Rattle.answers.specs.Spreads.{spreadBelow};
+ghost use Rattle.closure.specs.Trials.{TryingFact, TryingSelection, Tries, Restored, Queueing};
 ghost use Rattle.closure.specs.Trials.{SubjectQueued, Searching, EntryTold, Sought, QueueTold, Searched};
-ghost use Rattle.closure.specs.Trials.{WithOne, Nothing};
-ghost use Rattle.closure.specs.Trials.{Asking, Tried};
+ghost use Rattle.closure.specs.Trials.{WithOne, Nothing, Standing, Consistent, Tried, Asking};
 
-// The closed table with what w says of i and j, and all that follows: how many entries were queued.
+// Adds to a closed table what w says of i and j, and all that follows: how many entries were queued.
 fn try_fact(
-    closed: &[u8],
     t: &mut [u8],
     n: usize,
     w: u8,
@@ -41,13 +42,11 @@ fn try_fact(
     children: &[u8; 1152],
     queue: &mut [u16; ROOM],
 ) -> usize
-    requires { ⌜ TryingFact n (now closed) (now t) (now queue) (now starts) (now ends) (now features)
-        (now children) w i j ⌝ }
+    requires { ⌜ TryingFact n (now t) (now queue) (now starts) (now ends) (now features) (now children) w i j ⌝ }
     ensures { λ r. ⌜ Tries n
         (Grouped (now (starts .entry)) (now (ends .entry)) (now (features .entry)) (now (children .entry)))
-        (Said w i j) (now (closed .entry)) (now (t .exit)) (now (queue .exit)) r ⌝ }
+        (Said w i j) (now (t .entry)) (now (t .exit)) (now (queue .exit)) 0 r ⌝ }
 {
-    copy(closed, t);
     let tail = insert(t, n, w, i, j, queue, 0);
     run(t, n, starts, ends, features, children, queue, tail)
 }
@@ -67,9 +66,8 @@ fn queue_subject(n: usize, i: usize, queue: &mut [u16; ROOM]) -> usize
     tail
 }
 
-// The closed table with i[f]j, and all that follows: how many pairs were looked at.
+// Adds to a closed table all that follows with i[f]j: how many pairs were queued, the 2 × n of i first.
 fn try_selection(
-    closed: &[u8],
     t: &mut [u8],
     n: usize,
     i: usize,
@@ -81,14 +79,14 @@ fn try_selection(
     children: &mut [u8; 1152],
     queue: &mut [u16; ROOM],
 ) -> usize
-    requires { ⌜ TryingSelection n (now closed) (now t) (now queue) (now starts) (now ends) (now features)
-        (now children) i j ⌝ }
-    ensures { λ r. ⌜ SelectionTried n (now (closed .entry)) (now (starts .entry)) (now (ends .entry))
-        (now (features .entry)) (now (children .entry)) i f j (now (t .exit)) (now (queue .exit)) r ⌝ }
+    requires { ⌜ TryingSelection n (now t) (now queue) (now starts) (now ends) (now features) (now children) i j ⌝ }
+    ensures { λ r. ⌜ Tries n
+        (WithOne (Grouped (now (starts .entry)) (now (ends .entry)) (now (features .entry)) (now
+        (children .entry))) i f j)
+        Nothing (now (t .entry)) (now (t .exit)) (now (queue .exit)) (2 * n) r ⌝ }
     ensures { λ r. ⌜ Restored (now (ends .entry)) (now (features .entry)) (now (children .entry)) (now (ends .exit))
         (now (features .exit)) (now (children .exit)) (now (queue .exit)) ⌝ }
 {
-    copy(closed, t);
     let kept = put(ends, features, children, i, f, j);
     let queued = queue_subject(n, i, queue);
     let tail = run(t, n, starts, ends, features, children, queue, queued);
@@ -109,21 +107,22 @@ fn clashes_at(t: &[u8], n: usize, counts: &[u8; 128], labels: &[u16; 128], entry
     false
 }
 
-// Whether such an entry is in the queue.
+// Whether such an entry is in the queue, from one place up to another.
 fn clash_queued(
     t: &[u8],
     n: usize,
     counts: &[u8; 128],
     labels: &[u16; 128],
     queue: &[u16; ROOM],
+    from: usize,
     tail: usize,
 ) -> bool
-    requires { ⌜ Sought n (now t) (now queue) tail ⌝ }
+    requires { ⌜ Sought n (now t) (now queue) from tail ⌝ }
     ensures { λ r. ⌜ QueueTold n (now (t .entry)) (now (counts .entry)) (now (labels .entry)) (now
-        (queue .entry)) tail r ⌝ }
+        (queue .entry)) from tail r ⌝ }
 {
     let mut left = tail;
-    while 0 < left {
+    while from < left {
         left -= 1;
         if clashes_at(t, n, counts, labels, queue[left]) {
             return true;
@@ -132,7 +131,7 @@ fn clash_queued(
     false
 }
 
-// Whether a fact on trial clashes.
+// Whether a fact on trial clashes, tried in a copy of the closed table.
 fn fact_clashes(
     closed: &[u8],
     t: &mut [u8],
@@ -148,30 +147,21 @@ fn fact_clashes(
     labels: &[u16; 128],
     queue: &mut [u16; ROOM],
 ) -> bool
-    requires { ⌜ TryingFact n (now closed) (now t) (now queue) (now starts) (now ends) (now features)
-        (now children) w i j ⌝ }
+    requires { ⌜ TryingFact n (now t) (now queue) (now starts) (now ends) (now features) (now children) w i j ⌝ }
+    requires { ⌜ now t ≡ now closed ⌝ }
     ensures { λ r. ⌜ Searched n
         (Grouped (now (starts .entry)) (now (ends .entry)) (now (features .entry)) (now (children .entry)))
-        (Said w i j) (now (closed .entry)) (now (counts .entry)) (now (labels .entry)) (now (t .exit)) r ⌝ }
+        (Said w i j) (now (closed .entry)) (now (counts .entry)) (now (labels .entry)) r ⌝ }
+    ensures { λ r. ⌜ now (t .exit) ≡ now (closed .entry) ⌝ }
     ensures { λ r. ⌜ length (now (queue .exit)) ≡ 33024 ⌝ }
 {
-    let tail = try_fact(
-        closed,
-        t,
-        n,
-        w,
-        i,
-        j,
-        starts,
-        ends,
-        features,
-        children,
-        queue,
-    );
-    clash_queued(t, n, counts, labels, queue, tail)
+    let tail = try_fact(t, n, w, i, j, starts, ends, features, children, queue);
+    let found = clash_queued(t, n, counts, labels, queue, 0, tail);
+    restore(closed, t, n, queue, 0, tail);
+    found
 }
 
-// Whether a selection on trial clashes.
+// Whether a selection on trial clashes, tried in a copy of the closed table.
 fn selection_clashes(
     closed: &[u8],
     t: &mut [u8],
@@ -187,32 +177,24 @@ fn selection_clashes(
     labels: &[u16; 128],
     queue: &mut [u16; ROOM],
 ) -> bool
-    requires { ⌜ TryingSelection n (now closed) (now t) (now queue) (now starts) (now ends) (now features)
-        (now children) i j ⌝ }
+    requires { ⌜ TryingSelection n (now t) (now queue) (now starts) (now ends) (now features) (now children) i j ⌝ }
+    requires { ⌜ now t ≡ now closed ⌝ }
     ensures { λ r. ⌜ Searched n
         (WithOne (Grouped (now (starts .entry)) (now (ends .entry)) (now (features .entry)) (now
         (children .entry))) i f j)
-        Nothing (now (closed .entry)) (now (counts .entry)) (now (labels .entry)) (now (t .exit)) r ⌝ }
+        Nothing (now (closed .entry)) (now (counts .entry)) (now (labels .entry)) r ⌝ }
+    ensures { λ r. ⌜ now (t .exit) ≡ now (closed .entry) ⌝ }
     ensures { λ r. ⌜ Restored (now (ends .entry)) (now (features .entry)) (now (children .entry)) (now (ends .exit))
         (now (features .exit)) (now (children .exit)) (now (queue .exit)) ⌝ }
 {
-    let tail = try_selection(
-        closed,
-        t,
-        n,
-        i,
-        f,
-        j,
-        starts,
-        ends,
-        features,
-        children,
-        queue,
-    );
-    clash_queued(t, n, counts, labels, queue, tail)
+    let tail = try_selection(t, n, i, f, j, starts, ends, features, children, queue);
+    let from = 2 * n;
+    let found = clash_queued(t, n, counts, labels, queue, from, tail);
+    restore(closed, t, n, queue, from, tail);
+    found
 }
 
-// Whether a statement on trial clashes.
+// Whether a statement on trial clashes with statements that do not clash.
 fn try_statement(
     closed: &[u8],
     t: &mut [u8],
@@ -227,9 +209,10 @@ fn try_statement(
     queue: &mut [u16; ROOM],
 ) -> bool
     requires { ⌜ Asking n (now closed) (now t) (now queue) (now starts) (now ends) (now features) (now children) q ⌝ }
-    ensures { λ r. ⌜ Tried n (now (closed .entry)) (now (starts .entry)) (now (ends .entry)) (now (features .entry))
-        (now (children .entry)) (now (counts .entry)) (now (labels .entry)) true q (now (t .entry)) (now
-        (t .exit)) r ⌝ }
+    ensures { λ r. ⌜ Tried n
+        (Consistent n (now (closed .entry)) (now (starts .entry)) (now (ends .entry)) (now (features .entry))
+        (now (children .entry)) (now (counts .entry)) (now (labels .entry))) q r ⌝ }
+    ensures { λ r. ⌜ now (t .exit) ≡ now (closed .entry) ⌝ }
     ensures { λ r. ⌜ Restored (now (ends .entry)) (now (features .entry)) (now (children .entry)) (now (ends .exit))
         (now (features .exit)) (now (children .exit)) (now (queue .exit)) ⌝ }
 {
@@ -283,8 +266,8 @@ fn try_statement(
     }
 }
 
-// Whether q, added to statements that do not clash, would clash with them: tried only where two labels differ at all.
-pub fn trial(
+// The same, tried only where two labels differ at all.
+fn try_where_labels_differ(
     closed: &[u8],
     t: &mut [u8],
     n: usize,
@@ -300,9 +283,10 @@ pub fn trial(
 ) -> bool
     requires { ⌜ Asking n (now closed) (now t) (now queue) (now starts) (now ends) (now features) (now children) q ⌝ }
     requires { ⌜ spread ≡ spreadBelow n (now counts) (now labels) ⌝ }
-    ensures { λ r. ⌜ Tried n (now (closed .entry)) (now (starts .entry)) (now (ends .entry)) (now (features .entry))
-        (now (children .entry)) (now (counts .entry)) (now (labels .entry)) (canClash spread q) q (now (t .entry))
-        (now (t .exit)) r ⌝ }
+    ensures { λ r. ⌜ Tried n
+        (Consistent n (now (closed .entry)) (now (starts .entry)) (now (ends .entry)) (now (features .entry))
+        (now (children .entry)) (now (counts .entry)) (now (labels .entry))) q r ⌝ }
+    ensures { λ r. ⌜ now (t .exit) ≡ now (closed .entry) ⌝ }
     ensures { λ r. ⌜ Restored (now (ends .entry)) (now (features .entry)) (now (children .entry)) (now (ends .exit))
         (now (features .exit)) (now (children .exit)) (now (queue .exit)) ⌝ }
 {
@@ -322,4 +306,59 @@ pub fn trial(
         );
     }
     false
+}
+
+// Whether a pair clashes.
+fn is_clash(clash: Clash) -> bool
+    ensures { λ r. ⌜ r ≡ isClash clash ⌝ }
+{
+    match clash {
+        Clash::Nowhere => false,
+        Clash::Between(i, j) => true,
+    }
+}
+
+// Whether the statements clash with q behind them: the clash is theirs without q, and t a copy of the closed table.
+pub fn trial(
+    closed: &[u8],
+    t: &mut [u8],
+    n: usize,
+    clash: Clash,
+    spread: Spread,
+    q: Statement,
+    starts: &[usize; 128],
+    ends: &mut [usize; 128],
+    features: &mut [u16; 1152],
+    children: &mut [u8; 1152],
+    counts: &[u8; 128],
+    labels: &[u16; 128],
+    queue: &mut [u16; ROOM],
+) -> bool
+    requires { ⌜ Asking n (now closed) (now t) (now queue) (now starts) (now ends) (now features) (now children) q ⌝ }
+    requires { ⌜ ClashTold n (now closed) (now counts) (now labels) clash ⌝ }
+    requires { ⌜ spread ≡ spreadBelow n (now counts) (now labels) ⌝ }
+    ensures { λ r. ⌜ Tried n
+        (Standing n (now (closed .entry)) (now (starts .entry)) (now (ends .entry)) (now (features .entry))
+        (now (children .entry)) (now (counts .entry)) (now (labels .entry))) q r ⌝ }
+    ensures { λ r. ⌜ now (t .exit) ≡ now (closed .entry) ⌝ }
+    ensures { λ r. ⌜ Restored (now (ends .entry)) (now (features .entry)) (now (children .entry)) (now (ends .exit))
+        (now (features .exit)) (now (children .exit)) (now (queue .exit)) ⌝ }
+{
+    if is_clash(clash) {
+        return true;
+    }
+    try_where_labels_differ(
+        closed,
+        t,
+        n,
+        spread,
+        q,
+        starts,
+        ends,
+        features,
+        children,
+        counts,
+        labels,
+        queue,
+    )
 }

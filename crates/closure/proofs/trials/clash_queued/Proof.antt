@@ -1,17 +1,18 @@
--- `closure::trials::clash_queued` meets its contract: with each turn one entry less is left.
+-- `closure::trials::clash_queued` meets its contract: with each turn one entry more was seen.
+use Prim.Native.Nat.{_-_}
 use native.Mathlib.Omega.{arith}
-use Rattle.closure.proofs.Searches.{searching-at, Unseen, unseen-start, unseen-none, unseen-found, unseen-next}
+use Rattle.closure.proofs.Searches.{searching-at, Seen, seen-none, seen-all, seen-clash, seen-next}
 use Rattle.closure.proofs.trials.clash_queued.Statement.{statement}
 use Rattle.closure.proofs.trials.clash_queued.Tie as tie
 
 abbrev Inv-loop : tie.InvT-loop
-Inv-loop t n counts labels queue tail left₀ left = Unseen n t counts labels queue tail left
+Inv-loop t n counts labels queue from tail left₀ left = Seen n t counts labels queue from tail left
 
 abbrev μ-loop : tie.MeasureT-loop
-μ-loop t n counts labels queue tail left₀ left = left
+μ-loop t n counts labels queue from tail left₀ left = left
 
 loop-holds : tie.Need-loop-holds Inv-loop μ-loop
-loop-holds c = unseen-start
+loop-holds c = seen-none (c .before .pre .begin)
 
 sub-left : tie.Need-sub-left Inv-loop μ-loop
 sub-left c = omega (arith, c .loop-test .taken)
@@ -37,7 +38,7 @@ returns c =
     let at-clashes-at = c .before in
     let at-loop-test = at-clashes-at .before .before in
     let at-loop = at-loop-test .before in
-    unseen-found (at-loop .loop .inv) (at-loop-test .loop-test .taken) (at-clashes-at .clashes-at .ensures)
+    seen-clash (at-loop .loop .inv) (at-loop-test .loop-test .taken) (at-clashes-at .clashes-at .ensures)
     (c .if1 .taken)
 
 loop-less : tie.Need-loop-less Inv-loop μ-loop
@@ -48,11 +49,10 @@ loop-again c =
     let at-clashes-at = c .before in
     let at-loop-test = at-clashes-at .before .before in
     let at-loop = at-loop-test .before in
-    unseen-next (at-loop .loop .inv) (at-loop-test .loop-test .taken) (at-clashes-at .clashes-at .ensures)
-    (c .if1 .left)
+    seen-next (at-loop .loop .inv) (at-loop-test .loop-test .taken) (at-clashes-at .clashes-at .ensures) (c .if1 .left)
 
 returns-2 : tie.Need-returns-2 Inv-loop μ-loop
-returns-2 c = unseen-none (c .before .loop .inv) (c .loop-test .left)
+returns-2 c = seen-all (c .before .loop .inv) (c .loop-test .left)
 
 pub clash-queued-spec : {M : Type 1} → statement M
 clash-queued-spec =

@@ -22,9 +22,11 @@ fact-clashes-requires c κs =
     let at-wide2 = c .before .before .before .before in
     let at-wide = at-wide2 .before in
     let at-q = at-wide .before .before .before in
-    let start = at-q .before .before .before .before in
-    ask-fact (start .pre) ordered _ _
-    (at-q .q .given .1 ∙ ap₂ (fact ordered) (sym (at-wide .wide .ensures)) (sym (at-wide2 .wide2 .ensures)))
+    let start = at-q .before .before .before .before in (
+      ask-fact (start .pre) ordered _ _
+          (at-q .q .given .1 ∙ ap₂ (fact ordered) (sym (at-wide .wide .ensures)) (sym (at-wide2 .wide2 .ensures))),
+      start .pre .copied,
+    )
 
 enum-known-q-2 : tie.Need-enum-known-q-2
 enum-known-q-2 c = search needs
@@ -41,9 +43,12 @@ fact-clashes-requires-2 c κs =
     let at-wide4 = c .before .before .before .before in
     let at-wide3 = at-wide4 .before in
     let at-q2 = at-wide3 .before .before .before in
-    let start = at-q2 .before .before .before .before in
-    ask-fact (start .pre) compatible _ _
-    (at-q2 .q2 .given .1 ∙ ap₂ (fact compatible) (sym (at-wide3 .wide3 .ensures)) (sym (at-wide4 .wide4 .ensures)))
+    let start = at-q2 .before .before .before .before in (
+      ask-fact (start .pre) compatible _ _
+          (at-q2 .q2 .given .1 ∙ ap₂ (fact compatible) (sym (at-wide3 .wide3 .ensures))
+          (sym (at-wide4 .wide4 .ensures))),
+      start .pre .copied,
+    )
 
 enum-known-q-3 : tie.Need-enum-known-q-3
 enum-known-q-3 c = search needs
@@ -56,7 +61,7 @@ selection-clashes-requires c κs =
     let at-wide5 = c .before .before .before .before in
     let at-q3 = at-wide5 .before .before .before in
     let start = at-q3 .before .before .before .before in
-    ask-selection (start .pre) _ (at-q3 .q3 .given .1) (at-wide5 .wide5 .ensures)
+    (ask-selection (start .pre) _ (at-q3 .q3 .given .1) (at-wide5 .wide5 .ensures), start .pre .copied)
 
 enum-known-q-4 : tie.Need-enum-known-q-4
 enum-known-q-4 c = search needs
@@ -85,7 +90,10 @@ returns c =
           (at-q .q .given .1 ∙ ap₂ (fact ordered) (sym (at-wide .wide .ensures)) (sym (at-wide2 .wide2 .ensures)))
           (start .pre .names)
           (at-fact-clashes .fact-clashes .ensures .0),
-      untouched _ (at-fact-clashes .fact-clashes .ensures .1),
+      (
+        at-fact-clashes .fact-clashes .ensures .1 .0,
+        untouched _ (at-fact-clashes .fact-clashes .ensures .1 .1),
+      ),
     )
 
 same-length-2 : tie.Need-same-length-2
@@ -105,7 +113,10 @@ returns-2 c =
           (sym (at-wide4 .wide4 .ensures)))
           (start .pre .names)
           (at-fact-clashes2 .fact-clashes2 .ensures .0),
-      untouched _ (at-fact-clashes2 .fact-clashes2 .ensures .1),
+      (
+        at-fact-clashes2 .fact-clashes2 .ensures .1 .0,
+        untouched _ (at-fact-clashes2 .fact-clashes2 .ensures .1 .1),
+      ),
     )
 
 same-length-3 : tie.Need-same-length-3
@@ -128,7 +139,7 @@ returns-4 c =
     let at-q4 = at-wide6 .before .before in
     let start = at-q4 .before .before .before .before in (
       label-told _ _ (at-q4 .q4 .given .1) (at-wide6 .wide6 .ensures) (c .label-clashes .ensures),
-      untouched _ (start .pre .trying .queue-size),
+      (start .pre .copied, untouched _ (start .pre .trying .queue-size)),
     )
 
 pub try-statement-spec : {M : Type 1} → statement M

@@ -10,16 +10,30 @@ second-of-requires : tie.Need-second-of-requires
 second-of-requires c κs = search needs
 
 look-requires : tie.Need-look-requires
-look-requires c κs = rw (c .before .before .first-of .ensures, c .before .second-of .ensures) (c .before .before .before .before .before .pre .0)
+look-requires c κs =
+    let at-second-of = c .before in
+    let at-first-of = at-second-of .before in
+    let start = at-first-of .before .before .before in
+    rw (at-first-of .first-of .ensures, at-second-of .second-of .ensures) (start .pre .0)
 
 store-requires : tie.Need-store-requires
-store-requires c κs = rw (c .before .before .before .first-of .ensures, c .before .before .second-of .ensures) (c .before .before .before .before .before .before .pre .1)
+store-requires c κs =
+    let at-second-of = c .before .before in
+    let at-first-of = at-second-of .before in
+    let start = at-first-of .before .before .before in
+    rw (at-first-of .first-of .ensures, at-second-of .second-of .ensures) (start .pre .1)
 
 same-length : tie.Need-same-length
 same-length c = search needs
 
 returns : tie.Need-returns
-returns c = rw (← c .before .before .before .before .before .before .first-of .ensures, ← c .before .before .before .before .before .second-of .ensures, ← c .before .before .before .look .ensures) (c .before .before .store .ensures)
+returns c =
+    let at-store = c .before .before in
+    let at-look = at-store .before in
+    let at-second-of = at-look .before .before in
+    let at-first-of = at-second-of .before in
+    rw (← at-first-of .first-of .ensures, ← at-second-of .second-of .ensures, ← at-look .look .ensures)
+    (at-store .store .ensures)
 
 pub restore-entry-spec : {M : Type 1} → statement M
 restore-entry-spec =

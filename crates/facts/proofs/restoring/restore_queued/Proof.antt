@@ -23,16 +23,28 @@ element-copy-out-restore-entry : tie.Need-element-copy-out-restore-entry Inv-loo
 element-copy-out-restore-entry c = omega (arith, c .before .before .before .before .before .pre .room)
 
 restore-entry-requires : tie.Need-restore-entry-requires Inv-loop μ-loop
-restore-entry-requires c κs = (restore-from (c .before .before .before .loop .inv) (c .before .before .loop-test .taken), restore-to (c .before .before .before .loop .inv) (c .before .before .loop-test .taken))
+restore-entry-requires c κs =
+    let at-loop-test = c .before .before in
+    let at-loop = at-loop-test .before in (
+      restore-from (at-loop .loop .inv) (at-loop-test .loop-test .taken),
+      restore-to (at-loop .loop .inv)
+          (at-loop-test .loop-test .taken),
+    )
 
 add-k : tie.Need-add-k Inv-loop μ-loop
-add-k c = omega (arith, c .before .before .before .before .before .before .before .before .before .pre .room)
+add-k c =
+    let start = c .before .before .before .before .before .before .before .before .before in
+    omega (arith, start .pre .room)
 
 loop-less : tie.Need-loop-less Inv-loop μ-loop
 loop-less c = omega arith
 
 loop-again : tie.Need-loop-again Inv-loop μ-loop
-loop-again c = restore-next (c .before .before .before .before .before .before .loop .inv) (c .before .before .before .before .before .loop-test .taken) _ (c .before .before .restore-entry .ensures)
+loop-again c =
+    let at-restore-entry = c .before .before in
+    let at-loop-test = at-restore-entry .before .before .before in
+    let at-loop = at-loop-test .before in
+    restore-next (at-loop .loop .inv) (at-loop-test .loop-test .taken) _ (at-restore-entry .restore-entry .ensures)
 
 same-length : tie.Need-same-length Inv-loop μ-loop
 same-length c = c .before .loop .inv .grown .size ∙ sym (c .before .before .before .before .pre .grown .size)
