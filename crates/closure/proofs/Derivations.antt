@@ -120,6 +120,9 @@ module _ {n : ℕ} {t queue : List ℕ} {s₁ : State} {cells lefts rights start
         → DerivedFrom n cells lefts rights starts ends features children (s₃ .table)
     derived-all {s₃} settled =
         record {
+          shape = settled .moves .shape;
+          framed = settled .framed;
+          descends = settled .descends;
           table = λ st names pairs stand.
               settled-derived n st names stand (s₃ .table) (settled .moves .shape) (settled .framed) (settled .descends)
               (λ kind i j p.

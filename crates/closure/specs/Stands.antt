@@ -8,11 +8,12 @@ use Rattle.sheet.specs.Statements.{AllName}
 use Rattle.rules.specs.Stated.{Stated}
 use Rattle.rules.specs.Facts.{Kind, fact}
 use Rattle.rules.specs.Derived.{derived}
-use Rattle.rules.specs.Tables.{facts}
+use Rattle.rules.specs.Tables.{facts, Shape}
 use Rattle.facts.specs.Queue.{State, Ready}
 use Rattle.facts.specs.Additions.{Said, Among, Framed}
 use Rattle.selections.specs.Groups.{Grouped, Groups}
 use Rattle.selections.specs.Stands.{SelectionsStand}
+use Rattle.closure.specs.Settled.{Descends}
 
 -- three lists of one length: what each cell of the first says of two variables below n
 pub record Pairs (n : ℕ) (cells lefts rights : List ℕ) : Type 0 where
@@ -31,8 +32,11 @@ pub record PairsStand (st : List Statement) (cells lefts rights : List ℕ) : Ty
   pub listed : (kind : Kind) (i j : ℕ) → Stated st (fact kind i j) → Paired cells lefts rights kind i j
   pub stated : (kind : Kind) (i j : ℕ) → Paired cells lefts rights kind i j → Stated st (fact kind i j)
 
--- whatever statements stand in the arrays, the table is derived from them
+-- the table is closed, and whatever statements stand in the arrays, it is derived from them
 pub record DerivedFrom (n : ℕ) (cells lefts rights starts ends features children t : List ℕ) : Type 0 where
+  pub shape : Shape n t
+  pub framed : Framed n (facts n t)
+  pub descends : Descends n (Grouped starts ends features children) (facts n t)
   pub table : (st : List Statement) → AllName n st → PairsStand st cells lefts rights
       → SelectionsStand n st (Grouped starts ends features children) → t ≡ derived st n
 
