@@ -1,6 +1,6 @@
 -- Laws of questions and of the replies to them.
-use Prim.Native.Nat.{ℕ, _+_, _*_, _<_, _≤_}
-use lib.ListN.{length, set, length-set}
+use Prim.Native.Nat.{ℕ, _+_, _<_, _≤_}
+use lib.ListN.{length, getD, set, length-set}
 use lib.Seq.{getD-set-same, getD-set-other}
 use mathlib.Core.Bool.{Bool, true, false}
 use mathlib.Core.List.{List, [], _∷_, _++_}
@@ -13,8 +13,10 @@ use Rattle.sheet.proofs.Choice.{is-same, not-same, chosen, passed}
 use Rattle.rules.specs.Stated.{ordering, compatibility, selection, labelling}
 use Rattle.rules.specs.Clashes.{clashes}
 use Rattle.rules.proofs.Logic.{last-or-before}
-use Rattle.closure.specs.Trials.{Trying, Consistent, Asking, Tried, Restored}
-use Rattle.bench.specs.Questions.{asked, askedAt, digit, Replied, Replies}
+use Rattle.rules.specs.declared.clashes.Clash.{Clash}
+use Rattle.answers.specs.declared.spread.Spread.{Spread}
+use Rattle.closure.specs.Trials.{Standing, Asking, Tried, Restored}
+use Rattle.bench.specs.Questions.{asked, askedAt, digit, Prepared, Replied, Replies}
 
 pub clash-digit : (b : Bool) → b ≡ true → 1 ≡ digit b
 unfolding digit
@@ -63,103 +65,120 @@ module _ (kind first number second : ℕ) where
   unfolding asked
   asked-names n h h′ = picked-names n (same kind 0) (same kind 1) (same kind 2) h h′
 
--- another table to work in, and another queue
-with-room : {n : ℕ} {closed t t′ queue queue′ starts ends features children : List ℕ}
-    → Trying n closed t queue starts ends features children → length t′ ≡ n * n → length queue′ ≡ 33024
-    → Trying n closed t′ queue′ starts ends features children
-with-room trying size queue-size =
-    record {
-      few = trying .few;
-      shape = trying .shape;
-      framed = trying .framed;
-      descends = trying .descends;
-      size = size;
-      queue-size = queue-size;
-      groups = trying .groups;
-      spare = trying .spare;
-    }
-
 -- one question
 module _ (kind first number second : ℕ) {n : ℕ} {q : Statement} (e : q ≡ asked kind first number second) where
-  pub asking : {closed t queue starts ends features children : List ℕ}
-      → Trying n closed t queue starts ends features children → first < n → second < n
+  pub asking : {closed t queue starts ends features children counts labels : List ℕ} {clash : Clash} {spread : Spread}
+      → Prepared n closed t queue starts ends features children counts labels clash spread → first < n → second < n
       → Asking n closed t queue starts ends features children q
-  asking trying h h′ = record { trying = trying; names = rw e (asked-names kind first number second n h h′) }
+  asking prepared h h′ =
+      record {
+        copied = prepared .copied;
+        trying = prepared .trying;
+        names = rw e (asked-names kind first number second n h h′);
+      }
 
-  pub replied : {closed starts ends features children counts labels t t′ : List ℕ} {can clash : Bool} {r : ℕ}
-      → Tried n closed starts ends features children counts labels can q t t′ clash → r ≡ digit clash
-      → Replied n (λ st. Consistent n st closed starts ends features children counts labels)
-      (asked kind first number second) r
+  pub replied : {Some : List Statement → Type 0} {clash : Bool} {r : ℕ} → Tried n Some q clash → r ≡ digit clash
+      → Replied n Some (asked kind first number second) r
   replied tried told =
       record {
-        reply = λ st held.
-            told ∙ ap digit (tried .answer st held) ∙ ap (λ x. digit (clashes (st ++ (x ∷ [])) n)) e;
+        reply = λ st some.
+            told ∙ ap digit (tried .answer st some) ∙ ap (λ x. digit (clashes (st ++ (x ∷ [])) n)) e;
       }
 
 -- the first k questions have their replies, and the rest is as it was
-pub record Going (n : ℕ) (closed starts ends₀ features₀ children₀ counts labels kinds firsts numbers seconds : List ℕ)
-    (t ends features children queue replies : List ℕ) (k : ℕ) : Type 0 where
+pub record Going (n : ℕ) (closed starts ends₀ features₀ children₀ counts labels : List ℕ) (clash : Clash)
+    (spread : Spread) (kinds firsts numbers seconds t ends features children queue replies : List ℕ) (k : ℕ)
+    : Type 0 where
   pub bound : k ≤ length kinds
-  pub ends-same : ends ≡ ends₀
-  pub features-same : features ≡ features₀
-  pub children-same : children ≡ children₀
-  pub trying : Trying n closed t queue starts ends₀ features₀ children₀
+  pub same-ends : ends ≡ ends₀
+  pub same-features : features ≡ features₀
+  pub same-children : children ≡ children₀
+  pub prepared : Prepared n closed t queue starts ends₀ features₀ children₀ counts labels clash spread
   pub room : length replies ≡ length kinds
-  pub done : Replies n (λ st. Consistent n st closed starts ends₀ features₀ children₀ counts labels)
-      kinds firsts numbers seconds k replies
+  pub done : Replies n (Standing n closed starts ends₀ features₀ children₀ counts labels) kinds firsts numbers seconds k
+      replies
 
-module _ {n : ℕ} {closed starts ends₀ features₀ children₀ counts labels kinds firsts numbers seconds : List ℕ} where
-  pub going-start : {t queue replies : List ℕ} → Trying n closed t queue starts ends₀ features₀ children₀
+-- another queue of the same length, and the table as it was
+with-queue : {n : ℕ} {closed t queue starts ends features children counts labels : List ℕ} {clash : Clash}
+    {spread : Spread} (t′ queue′ : List ℕ)
+    → Prepared n closed t queue starts ends features children counts labels clash spread → t′ ≡ closed
+    → length queue′ ≡ 33024 → Prepared n closed t′ queue′ starts ends features children counts labels clash spread
+with-queue t′ queue′ prepared copied room =
+    let trying = prepared .trying in
+    record {
+      copied = copied;
+      trying =
+          record {
+            few = trying .few;
+            shape = trying .shape;
+            framed = trying .framed;
+            descends = trying .descends;
+            queue-size = room;
+            groups = trying .groups;
+            spare = trying .spare;
+          };
+      clash-told = prepared .clash-told;
+      spread-told = prepared .spread-told;
+    }
+
+module _ {n : ℕ} {closed starts ends₀ features₀ children₀ counts labels : List ℕ} {clash : Clash} {spread : Spread}
+    {kinds firsts numbers seconds : List ℕ} where
+  pub going-start : {t queue replies : List ℕ}
+      → Prepared n closed t queue starts ends₀ features₀ children₀ counts labels clash spread
       → length replies ≡ length kinds
-      → Going n closed starts ends₀ features₀ children₀ counts labels kinds firsts numbers seconds
+      → Going n closed starts ends₀ features₀ children₀ counts labels clash spread kinds firsts numbers seconds
       t ends₀ features₀ children₀ queue replies 0
-  going-start trying room =
+  going-start prepared room =
       record {
         bound = omega arith;
-        ends-same = refl;
-        features-same = refl;
-        children-same = refl;
-        trying = trying;
+        same-ends = refl;
+        same-features = refl;
+        same-children = refl;
+        prepared = prepared;
         room = room;
         done = record { each = λ k h. absurd (omega (arith, h)) };
       }
 
   module _ {t ends features children queue replies : List ℕ} {k : ℕ}
-      (g : Going n closed starts ends₀ features₀ children₀ counts labels kinds firsts numbers seconds
+      (g : Going n closed starts ends₀ features₀ children₀ counts labels clash spread kinds firsts numbers seconds
       t ends features children queue replies k) where
-    pub trying-next : Trying n closed t queue starts ends features children
-    trying-next = rw (g .ends-same, g .features-same, g .children-same) (g .trying)
+    pub prepared-next : Prepared n closed t queue starts ends features children counts labels clash spread
+    prepared-next = rw (g .same-ends, g .same-features, g .same-children) (g .prepared)
 
-    pub going-next : {t′ ends′ features′ children′ queue′ : List ℕ} {r : ℕ} → k < length kinds
-        → Replied n (λ st. Consistent n st closed starts ends features children counts labels)
-        (askedAt kinds firsts numbers seconds k) r
-        → Restored ends features children ends′ features′ children′ queue′ → length t′ ≡ length t
-        → Going n closed starts ends₀ features₀ children₀ counts labels kinds firsts numbers seconds
-        t′ ends′ features′ children′ queue′ (set replies k r) (k + 1)
-    going-next {r = r} more now kept size =
-        record {
-          bound = omega (arith, more);
-          ends-same = kept .same-ends ∙ g .ends-same;
-          features-same = kept .same-features ∙ g .features-same;
-          children-same = kept .same-children ∙ g .children-same;
-          trying = with-room (g .trying) (size ∙ g .trying .size) (kept .room);
-          room = length-set replies k r ∙ g .room;
-          done =
-              record {
-                each = λ x h. record {
-                  reply = λ st held.
-                      last-or-before x k (omega (arith, h))
-                      (λ same.
-                      rw same
-                      (getD-set-same replies k r 0 (omega (arith, g .room, more))
-                      ∙ now .reply st (rw (g .ends-same, g .features-same, g .children-same) held)))
-                      (λ less.
-                      getD-set-other replies k x r 0 (λ same. omega arith) ∙ g .done .each x less .reply st held);
-                };
-              };
-        }
+    -- the reply to question k
+    module _ {ends′ features′ children′ queue′ : List ℕ} (t′ : List ℕ) (r : ℕ) (more : k < length kinds)
+        (now : Replied n (Standing n closed starts ends features children counts labels)
+        (askedAt kinds firsts numbers seconds k) r)
+        (same-table : t′ ≡ closed) (kept : Restored ends features children ends′ features′ children′ queue′) where
+      reply-each : (x : ℕ) → x < k + 1
+          → Replied n (Standing n closed starts ends₀ features₀ children₀ counts labels)
+          (askedAt kinds firsts numbers seconds x) (getD (set replies k r) x 0)
+      reply-each x h =
+          record {
+            reply = λ st stands.
+                last-or-before x k (omega (arith, h))
+                (λ same.
+                rw same
+                (getD-set-same replies k r 0 (omega (arith, g .room, more))
+                ∙ now .reply st (rw (g .same-ends, g .same-features, g .same-children) stands)))
+                (λ less.
+                getD-set-other replies k x r 0 (λ same. omega arith) ∙ g .done .each x less .reply st stands);
+          }
+
+      pub going-next : Going n closed starts ends₀ features₀ children₀ counts labels clash spread kinds firsts numbers
+          seconds t′ ends′ features′ children′ queue′ (set replies k r) (k + 1)
+      going-next =
+          record {
+            bound = omega (arith, more);
+            same-ends = kept .same-ends ∙ g .same-ends;
+            same-features = kept .same-features ∙ g .same-features;
+            same-children = kept .same-children ∙ g .same-children;
+            prepared = with-queue t′ queue′ (g .prepared) same-table (kept .room);
+            room = length-set replies k r ∙ g .room;
+            done = record { each = reply-each };
+          }
 
     pub going-end : length kinds ≤ k
-        → Replies n (λ st. Consistent n st closed starts ends₀ features₀ children₀ counts labels)
-        kinds firsts numbers seconds (length kinds) replies
+        → Replies n (Standing n closed starts ends₀ features₀ children₀ counts labels) kinds firsts numbers seconds
+        (length kinds) replies
     going-end h = record { each = λ x more. g .done .each x (omega (arith, h, more)) }

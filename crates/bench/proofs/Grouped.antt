@@ -1,62 +1,67 @@
 -- What holds of the groups holds of the lists that they were made of.
-use Prim.Native.Nat.{ℕ, _*_}
+use Prim.Native.Nat.{ℕ}
 use lib.ListN.{length}
 use mathlib.Core.List.{List}
-use mathlib.Core.Path.{_≡_}
+use mathlib.Core.Path.{_≡_, sym, _∙_}
+use Rattle.rules.specs.declared.clashes.Clash.{Clash}
 use Rattle.selections.specs.Listed.{Selections}
-use Rattle.selections.specs.Places.{Grouping}
-use Rattle.selections.proofs.Theorems.{made-groups, made-spare, made-no-other, made-stand}
-use Rattle.closure.specs.Stands.{Pairs, Deriving, DerivedFrom}
-use Rattle.closure.specs.Trials.{Trying, Consistent}
+use Rattle.selections.proofs.Theorems.{made-groups, made-spare, made-stand}
+use Rattle.answers.specs.declared.spread.Spread.{Spread}
+use Rattle.answers.specs.Cells.{Lent}
+use Rattle.answers.specs.Clashes.{ClashTold}
+use Rattle.answers.specs.Spreads.{spreadBelow}
+use Rattle.closure.specs.Trials.{Standing}
+use Rattle.closure.proofs.Theorems.{may-be-told, is-derived-table, stands}
 use Rattle.bench.specs.Lists.{ListsDerive}
-use Rattle.bench.specs.Questions.{ListsClosed, ListsConsistent, Replies}
+use Rattle.bench.specs.Made.{Made}
+use Rattle.bench.specs.Questions.{Prepared, HeldLabels, Replies}
 
-module _ {n : ℕ} {subjects features children starts₀ ends₀ features₀ children₀ : List ℕ}
-    {starts ends group-features group-children : List ℕ} (s : Selections n subjects features children)
-    (g : Grouping n subjects features children starts₀ ends₀ features₀ children₀ starts ends group-features
-    group-children) where
-  pub deriving-lists : {cells lefts rights : List ℕ} → Pairs n cells lefts rights
-      → Deriving n cells lefts rights starts ends group-features group-children
-  deriving-lists pairs = record { few = s .few; pairs = pairs; groups = made-groups s g }
+module _ {n : ℕ} {cells lefts rights subjects features children : List ℕ}
+    {starts ends group-features group-children closed : List ℕ} (lawful : Selections n subjects features children)
+    (made : Made n cells lefts rights subjects features children starts ends group-features group-children closed)
+  where
+    pub lists-derive : ListsDerive n cells lefts rights subjects features children closed
+    lists-derive =
+        record {
+          table = λ st held.
+              is-derived-table lawful (made .grouping) (made .from) (held .names) (held .pairs) (held .selections);
+        }
 
-  pub lists-derive : {cells lefts rights t : List ℕ}
-      → DerivedFrom n cells lefts rights starts ends group-features group-children t
-      → ListsDerive n cells lefts rights subjects features children t
-  lists-derive d = record { table = λ st names pairs stand. d .table st names pairs (made-stand s g stand) }
+    pub lists-lent : Lent n closed
+    lists-lent = may-be-told lawful (made .grouping) (made .from)
 
-  pub trying-lists : {closed t queue : List ℕ} → ListsClosed n closed subjects features children
-      → length t ≡ n * n → length queue ≡ 33024 → Trying n closed t queue starts ends group-features group-children
-  trying-lists closed size queue-size =
-      record {
-        few = s .few;
-        shape = closed .shape;
-        framed = closed .framed;
-        descends = λ kind i j b b′ h. record {
-          down = λ f i′ j′ m m′.
-              closed .descends kind i j b b′ h .down f i′ j′ (made-no-other s g b m) (made-no-other s g b′ m′);
-        };
-        size = size;
-        queue-size = queue-size;
-        groups = made-groups s g;
-        spare = made-spare s g;
-      }
-
-  pub lists-replies : {closed counts labels kinds firsts numbers seconds replies : List ℕ} {m : ℕ}
-      → Replies n (λ st. Consistent n st closed starts ends group-features group-children counts labels)
-      kinds firsts numbers seconds m replies
-      → Replies n (ListsConsistent n closed subjects features children counts labels)
-      kinds firsts numbers seconds m replies
-  lists-replies r =
-      record {
-        each = λ k h. record {
-          reply = λ st held.
-              r .each k h .reply st
+    pub prepared : {t queue counts labels : List ℕ} {clash : Clash} {spread : Spread} → t ≡ closed
+        → length queue ≡ 33024 → ClashTold n closed counts labels clash → spread ≡ spreadBelow n counts labels
+        → Prepared n closed t queue starts ends group-features group-children counts labels clash spread
+    prepared copied room clash spread =
+        record {
+          copied = copied;
+          trying =
               record {
-                names = held .names;
-                derives = held .derives;
-                selections = made-stand s g (held .selections);
-                labelled = held .labelled;
-                clear = held .clear;
+                few = lawful .few;
+                shape = made .from .shape;
+                framed = made .from .framed;
+                descends = made .from .descends;
+                queue-size = room;
+                groups = made-groups lawful (made .grouping);
+                spare = made-spare lawful (made .grouping);
               };
-        };
-      }
+          clash-told = clash;
+          spread-told = spread;
+        }
+
+    pub lists-replies : {counts labels kinds firsts numbers seconds replies : List ℕ} {m : ℕ}
+        → Replies n (Standing n closed starts ends group-features group-children counts labels) kinds firsts numbers
+        seconds m replies
+        → Replies n (HeldLabels n cells lefts rights subjects features children counts labels) kinds firsts numbers
+        seconds m replies
+    lists-replies r =
+        record {
+          each = λ k h. record {
+            reply = λ st with-labels.
+                let held = with-labels .held in
+                r .each k h .reply st
+                (stands lawful (made .grouping) (made .from) (held .names) (held .pairs) (held .selections)
+                (with-labels .labelled));
+          };
+        }

@@ -1,5 +1,6 @@
 // What the benchmark calls from C: the derivation of lists of statements, and the trials of many questions.
 mod derivation;
+mod lists;
 mod trials;
 
 pub use derivation::bench_derive;

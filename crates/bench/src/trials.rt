@@ -1,22 +1,24 @@
 // The trials of many questions.
+use crate::derivation::make;
+use crate::lists::askable;
 use answers::Spread;
+use answers::clash_of;
 use answers::spread_of;
 use closure::trial;
 use facts::ROOM;
-use facts::clear;
-use selections::group;
+use facts::copy;
+use rules::Clash;
 use sheet::Feature;
 use sheet::Label;
 use sheet::Statement;
 use sheet::Variable;
-ghost use Prim.Native.Nat.{_*_, _<_};
-ghost use lib.ListN.{length, replicate};
+ghost use Prim.Native.Nat.{_<_};
+ghost use lib.ListN.{length};
 ghost use mathlib.Core.Path.{_≡_};
-ghost use Rattle.selections.specs.Listed.{Selections};
-ghost use Rattle.answers.specs.Spreads.{spreadBelow};
-ghost use Rattle.closure.specs.Trials.{Trying, Consistent, Restored};
-ghost use Rattle.bench.specs.Questions.{asked, digit, Questions, ListsClosed, ListsConsistent};
-ghost use Rattle.bench.specs.Questions.{Replied, Replies};
+ghost use Rattle.closure.specs.Trials.{Standing, Restored};
+ghost use Rattle.bench.specs.Lists.{ListsDerive};
+ghost use Rattle.bench.specs.Questions.{asked, digit, Questions, Prepared, Askable, HeldLabels};
+ghost use Rattle.bench.specs.Questions.{Replied, Replies, TrialsTold};
 
 // The question of a kind: 0 for ≤, 1 for ~, 2 for a selection, any other for a label.
 fn question(kind: u8, first: u8, number: u16, second: u8) -> Statement
@@ -49,6 +51,7 @@ fn reply(
     closed: &[u8],
     t: &mut [u8],
     n: usize,
+    clash: Clash,
     spread: Spread,
     kind: u8,
     first: u8,
@@ -62,14 +65,14 @@ fn reply(
     labels: &[u16; 128],
     queue: &mut [u16; ROOM],
 ) -> u8
-    requires { ⌜ Trying n (now closed) (now t) (now queue) (now starts) (now ends) (now features)
-        (now children) ⌝ }
-    requires { ⌜ spread ≡ spreadBelow n (now counts) (now labels) ⌝ }
+    requires { ⌜ Prepared n (now closed) (now t) (now queue) (now starts) (now ends) (now features) (now children)
+        (now counts) (now labels) clash spread ⌝ }
     requires { ⌜ (first < n) × (second < n) ⌝ }
     ensures { λ r. ⌜ Replied n
-        (λ st. Consistent n st (now (closed .entry)) (now (starts .entry)) (now (ends .entry))
-        (now (features .entry)) (now (children .entry)) (now (counts .entry)) (now (labels .entry)))
+        (Standing n (now (closed .entry)) (now (starts .entry)) (now (ends .entry)) (now (features .entry))
+        (now (children .entry)) (now (counts .entry)) (now (labels .entry)))
         (asked kind first number second) r ⌝ }
+    ensures { λ r. ⌜ now (t .exit) ≡ now (closed .entry) ⌝ }
     ensures { λ r. ⌜ Restored (now (ends .entry)) (now (features .entry)) (now (children .entry)) (now (ends .exit))
         (now (features .exit)) (now (children .exit)) (now (queue .exit)) ⌝ }
 {
@@ -78,6 +81,7 @@ fn reply(
         closed,
         t,
         n,
+        clash,
         spread,
         q,
         starts,
@@ -95,6 +99,7 @@ fn reply_all(
     closed: &[u8],
     t: &mut [u8],
     n: usize,
+    clash: Clash,
     spread: Spread,
     starts: &[usize; 128],
     ends: &mut [usize; 128],
@@ -107,24 +112,25 @@ fn reply_all(
     numbers: &[u16],
     seconds: &[u8],
     replies: &mut [u8],
+    queue: &mut [u16; ROOM],
 )
-    requires { ⌜ Trying n (now closed) (now t) (replicate 33024 0) (now starts) (now ends) (now features)
-        (now children) ⌝ }
-    requires { ⌜ spread ≡ spreadBelow n (now counts) (now labels) ⌝ }
-    requires { ⌜ Questions n (now kinds) (now firsts) (now numbers) (now seconds) (now replies) ⌝ }
+    requires { ⌜ Prepared n (now closed) (now t) (now queue) (now starts) (now ends) (now features) (now children)
+        (now counts) (now labels) clash spread ⌝ }
+    requires { ⌜ Questions n (now kinds) (now firsts) (now numbers) (now seconds) (length (now replies)) ⌝ }
     ensures { λ r. ⌜ Replies n
-        (λ st. Consistent n st (now (closed .entry)) (now (starts .entry)) (now (ends .entry))
-        (now (features .entry)) (now (children .entry)) (now (counts .entry)) (now (labels .entry)))
+        (Standing n (now (closed .entry)) (now (starts .entry)) (now (ends .entry)) (now (features .entry))
+        (now (children .entry)) (now (counts .entry)) (now (labels .entry)))
         (now (kinds .entry)) (now (firsts .entry)) (now (numbers .entry)) (now (seconds .entry))
         (length (now (kinds .entry))) (now (replies .exit)) ⌝ }
+    ensures { λ r. ⌜ now (t .exit) ≡ now (closed .entry) ⌝ }
 {
-    let mut queue = [0u16; ROOM];
     let mut k = 0;
     while k < kinds.len() {
         replies[k] = reply(
             closed,
             t,
             n,
+            clash,
             spread,
             kinds[k],
             firsts[k],
@@ -136,18 +142,20 @@ fn reply_all(
             children,
             counts,
             labels,
-            &mut queue,
+            queue,
         );
         k += 1;
     }
 }
 
-// Says of each question whether it clashes with the statements of the lists, working in a table that is left empty.
-#[no_mangle]
-pub extern "C" fn bench_trials(
-    closed: &[u8],
+// Derives the table, and replies to all questions.
+fn derive_and_reply(
+    closed: &mut [u8],
     t: &mut [u8],
     n: usize,
+    cells: &[u8],
+    lefts: &[u8],
+    rights: &[u8],
     subjects: &[u8],
     features: &[u16],
     children: &[u8],
@@ -159,23 +167,29 @@ pub extern "C" fn bench_trials(
     seconds: &[u8],
     replies: &mut [u8],
 )
-    requires { ⌜ length (now t) ≡ n * n ⌝ }
-    requires { ⌜ Selections n (now subjects) (now features) (now children) ⌝ }
-    requires { ⌜ ListsClosed n (now closed) (now subjects) (now features) (now children) ⌝ }
-    requires { ⌜ Questions n (now kinds) (now firsts) (now numbers) (now seconds) (now replies) ⌝ }
+    requires { ⌜ Askable n (now cells) (now lefts) (now rights) (now subjects) (now features) (now children)
+        (length (now closed)) (length (now t)) (now kinds) (now firsts) (now numbers) (now seconds)
+        (length (now replies)) ⌝ }
+    ensures { λ r. ⌜ ListsDerive n (now (cells .entry)) (now (lefts .entry)) (now (rights .entry))
+        (now (subjects .entry)) (now (features .entry)) (now (children .entry)) (now (closed .exit)) ⌝ }
+    ensures { λ r. ⌜ now (t .exit) ≡ now (closed .exit) ⌝ }
     ensures { λ r. ⌜ Replies n
-        (ListsConsistent n (now (closed .entry)) (now (subjects .entry)) (now (features .entry))
-        (now (children .entry)) (now (counts .entry)) (now (labels .entry)))
+        (HeldLabels n (now (cells .entry)) (now (lefts .entry)) (now (rights .entry)) (now (subjects .entry))
+        (now (features .entry)) (now (children .entry)) (now (counts .entry)) (now (labels .entry)))
         (now (kinds .entry)) (now (firsts .entry)) (now (numbers .entry)) (now (seconds .entry))
         (length (now (kinds .entry))) (now (replies .exit)) ⌝ }
-    ensures { λ r. ⌜ now (t .exit) ≡ replicate (n * n) 0 ⌝ }
 {
     let mut starts = [0usize; 128];
     let mut ends = [0usize; 128];
     let mut group_features = [0u16; 1152];
     let mut group_children = [0u8; 1152];
-    group(
+    let mut queue = [0u16; ROOM];
+    make(
+        closed,
         n,
+        cells,
+        lefts,
+        rights,
         subjects,
         features,
         children,
@@ -183,12 +197,16 @@ pub extern "C" fn bench_trials(
         &mut ends,
         &mut group_features,
         &mut group_children,
+        &mut queue,
     );
+    copy(closed, t);
+    let clash = clash_of(closed, n, counts, labels);
     let spread = spread_of(n, counts, labels);
     reply_all(
         closed,
         t,
         n,
+        clash,
         spread,
         &starts,
         &mut ends,
@@ -201,6 +219,71 @@ pub extern "C" fn bench_trials(
         numbers,
         seconds,
         replies,
+        &mut queue,
     );
-    clear(t);
+}
+
+// Says of each question whether the statements of lawful lists clash with it; refuses other lists.
+#[no_mangle]
+pub extern "C" fn bench_trials(
+    closed: &mut [u8],
+    t: &mut [u8],
+    n: usize,
+    cells: &[u8],
+    lefts: &[u8],
+    rights: &[u8],
+    subjects: &[u8],
+    features: &[u16],
+    children: &[u8],
+    counts: &[u8; 128],
+    labels: &[u16; 128],
+    kinds: &[u8],
+    firsts: &[u8],
+    numbers: &[u16],
+    seconds: &[u8],
+    replies: &mut [u8],
+) -> bool
+    ensures { λ r. ⌜ TrialsTold n (now (cells .entry)) (now (lefts .entry)) (now (rights .entry))
+        (now (subjects .entry)) (now (features .entry)) (now (children .entry)) (now (counts .entry))
+        (now (labels .entry)) (now (kinds .entry)) (now (firsts .entry)) (now (numbers .entry)) (now (seconds .entry))
+        (now (closed .entry)) (now (t .entry)) (now (replies .entry)) (now (closed .exit)) (now (t .exit))
+        (now (replies .exit)) r ⌝ }
+{
+    if askable(
+        n,
+        cells,
+        lefts,
+        rights,
+        subjects,
+        features,
+        children,
+        closed.len(),
+        t.len(),
+        kinds,
+        firsts,
+        numbers,
+        seconds,
+        replies.len(),
+    ) {
+        derive_and_reply(
+            closed,
+            t,
+            n,
+            cells,
+            lefts,
+            rights,
+            subjects,
+            features,
+            children,
+            counts,
+            labels,
+            kinds,
+            firsts,
+            numbers,
+            seconds,
+            replies,
+        );
+        return true;
+    }
+    false
 }

@@ -182,7 +182,8 @@ module _ {n : ℕ} {closed starts ends features children counts labels : List �
       })
 
   pub label-told : {r : Bool} {i : Variable} {a : Label} (x : ℕ) (q : Statement) → q ≡ Statement.Labelling i a
-      → x ≡ i .0 → LabelClashTold n closed counts labels x (a .0) r → Tried n (Consistent n closed starts ends features children counts labels) q r
+      → x ≡ i .0 → LabelClashTold n closed counts labels x (a .0) r
+      → Tried n (Consistent n closed starts ends features children counts labels) q r
   label-told x q d g told =
       rw (read-label d g) (record {
         answer = λ st consistent.
@@ -209,7 +210,8 @@ module _ {n : ℕ} {closed starts ends features children counts labels : List �
   of-statements st stands =
       ap isClash (found .told st (stands .labelled) ∙ ap (λ u. clashInRows n 0 n st (facts n u)) (stands .derives))
 
-  pub clash-stays : isClash clash ≡ true → Tried n (Standing n closed starts ends features children counts labels) q true
+  pub clash-stays : isClash clash ≡ true
+      → Tried n (Standing n closed starts ends features children counts labels) q true
   clash-stays p =
       record {
         answer = λ st stands.

@@ -1,31 +1,38 @@
--- `bench::derivation::bench_derive` meets its contract: what is derived from the groups is derived from the lists.
+-- `bench::derivation::bench_derive` meets its contract: what is not lawful is refused, with the table as it was.
 use borrow.Author.Needs.{needs}
-use Rattle.bench.proofs.Grouped.{deriving-lists, lists-derive}
+use mathlib.Core.Path.{refl, sym, _∙_}
+use Rattle.rules.proofs.Logic.{contrary}
 use Rattle.bench.proofs.derivation.bench_derive.Statement.{statement}
 use Rattle.bench.proofs.derivation.bench_derive.Tie as tie
 
-group-requires : tie.Need-group-requires
-group-requires c κs = search needs
+lawful-requires : tie.Need-lawful-requires
+lawful-requires c κs = tt
 
-derive-requires : tie.Need-derive-requires
-derive-requires c κs =
-    let at-group = c .before .before .before .before .before .before in
-    let near = at-group .before .before .before .before .before .before in
-    let start = near .before .before .before .before .before .before in
-    let s = start .pre in
-    (s .0, deriving-lists (s .1 .1) (at-group .group .ensures) (s .1 .0))
+make-again-requires : tie.Need-make-again-requires
+make-again-requires c κs = c .before .before .lawful .ensures .0 (c .before .if1 .taken)
 
 same-length : tie.Need-same-length
 same-length c = search needs
 
 returns : tie.Need-returns
 returns c =
-    let at-derive = c .before .before in
-    let at-group = at-derive .before .before .before .before .before .before .before in
-    let near = at-group .before .before .before .before .before .before in
-    let start = near .before .before .before .before .before .before in
-    let s = start .pre in
-    (lists-derive (s .1 .1) (at-group .group .ensures) (at-derive .derive .ensures .0), at-derive .derive .ensures .1)
+    let at-make-again = c .before .before in
+    let at-if1 = at-make-again .before .before in
+    let at-lawful = at-if1 .before in
+    record {
+      judged = (λ p. at-lawful .lawful .ensures .0 (at-if1 .if1 .taken), λ l. refl);
+      derives = λ p. at-make-again .make-again .ensures;
+      refused = λ p. absurd (contrary refl p);
+    }
+
+returns-2 : tie.Need-returns-2
+returns-2 c =
+    record {
+      judged = (λ p. absurd (contrary p refl), λ l. absurd (contrary (c .before .lawful .ensures .1 l) (c .if1 .left)));
+      derives = λ p. absurd (contrary p refl);
+      refused = λ p. refl;
+    }
 
 pub bench-derive-spec : {M : Type 1} → statement M
-bench-derive-spec = tie.close (tie.spec group-requires derive-requires same-length returns)
+bench-derive-spec =
+    tie.close (tie.spec lawful-requires make-again-requires same-length returns returns-2)

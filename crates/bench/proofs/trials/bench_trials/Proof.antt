@@ -1,32 +1,18 @@
--- `bench::trials::bench_trials` meets its contract: what the groups reply is what the lists reply.
+-- `bench::trials::bench_trials` meets its contract: what is not lawful is refused, with all as it was.
 use borrow.Author.Needs.{needs}
-use lib.ListN.{replicate}
-use mathlib.Core.Path.{refl, ap, _∙_}
-use Rattle.bench.proofs.Grouped.{trying-lists, lists-replies}
+use mathlib.Core.Path.{refl, sym, _∙_}
+use Rattle.rules.proofs.Logic.{contrary}
 use Rattle.bench.proofs.trials.bench_trials.Statement.{statement}
 use Rattle.bench.proofs.trials.bench_trials.Tie as tie
 
-group-requires : tie.Need-group-requires
-group-requires c κs = search needs
+askable-requires : tie.Need-askable-requires
+askable-requires c κs = tt
 
-spread-of-requires : tie.Need-spread-of-requires
-spread-of-requires c κs =
-    let near = c .before .before .before .before .before .before .before in
-    let start = near .before .before .before .before .before .before .before .before in
-    start .pre .1 .0 .few
-
-reply-all-requires : tie.Need-reply-all-requires
-reply-all-requires c κs =
-    let at-spread-of = c .before .before .before .before .before .before in
-    let at-group = at-spread-of .before in
-    let near = at-group .before .before .before .before .before .before .before in
-    let start = near .before .before .before .before .before .before .before .before in
-    let s = start .pre in
-    let trying = trying-lists (s .1 .0) (at-group .group .ensures) (s .1 .1 .0) (s .0) refl in
-    (trying, (at-spread-of .spread-of .ensures, s .1 .1 .1))
-
-clear-requires : tie.Need-clear-requires
-clear-requires c κs = search needs
+derive-and-reply-requires : tie.Need-derive-and-reply-requires
+derive-and-reply-requires c κs =
+    let at-if1 = c .before .before .before in
+    let at-askable = at-if1 .before in
+    at-askable .askable .ensures .0 (at-if1 .if1 .taken)
 
 same-length : tie.Need-same-length
 same-length c = search needs
@@ -34,27 +20,45 @@ same-length c = search needs
 same-length-2 : tie.Need-same-length-2
 same-length-2 c = search needs
 
+same-length-3 : tie.Need-same-length-3
+same-length-3 c = search needs
+
 returns : tie.Need-returns
 returns c =
-    let at-clear = c .before .before in
-    let at-t = at-clear .before .before .before .before .before in
-    let at-reply-all = at-t .before in
-    let at-group = at-reply-all .before .before .before .before .before .before .before .before in
-    let near = at-group .before .before .before .before .before .before .before in
-    let start = near .before .before .before .before .before .before .before .before in
-    let s = start .pre in (
-      lists-replies (s .1 .0) (at-group .group .ensures) (at-reply-all .reply-all .ensures),
-      at-clear .clear .ensures ∙ ap (λ m. replicate m 0) (at-t .t .given ∙ s .0),
-    )
+    let at-derive-and-reply = c .before .before .before .before .before .before in
+    let at-if1 = at-derive-and-reply .before .before .before .before in
+    let at-askable = at-if1 .before in
+    let done = at-derive-and-reply .derive-and-reply .ensures in
+    record {
+      judged = (λ p. at-askable .askable .ensures .0 (at-if1 .if1 .taken), λ a. refl);
+      derives = λ p. done .0;
+      copied = λ p. done .1 .0;
+      replied = λ p. done .1 .1;
+      refused = λ p. absurd (contrary refl p);
+    }
+
+returns-2 : tie.Need-returns-2
+returns-2 c =
+    record {
+      judged = (
+        λ p. absurd (contrary p refl),
+        λ a. absurd
+            (contrary (c .before .askable .ensures .1 a) (c .if1 .left)),
+      );
+      derives = λ p. absurd (contrary p refl);
+      copied = λ p. absurd (contrary p refl);
+      replied = λ p. absurd (contrary p refl);
+      refused = λ p. (refl, refl, refl);
+    }
 
 pub bench-trials-spec : {M : Type 1} → statement M
 bench-trials-spec =
     tie.close
     (tie.spec
-    group-requires
-    spread-of-requires
-    reply-all-requires
-    clear-requires
+    askable-requires
+    derive-and-reply-requires
     same-length
     same-length-2
-    returns)
+    same-length-3
+    returns
+    returns-2)
