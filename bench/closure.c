@@ -1,7 +1,6 @@
 // Measures the engine's derivation and trials against the same algorithm in C, on families of inputs from stored seeds.
 #include "closure.h"
 
-#include <stdbool.h>
 #include <stdio.h>
 #include <stdlib.h>
 #include <string.h>
@@ -188,7 +187,8 @@ static void generate(struct input *in, const struct family *family, size_t n)
     state = family->seed * 1000 + n;
     in->n = n;
     family->state(in);
-    reference_derive(in, t);
+    if (!reference_derive(in, t, 1))
+        die(family, n, "the lists are refused");
     if (state_labels(in, t) < 2)
         die(family, n, "fewer than two labels");
     state_questions(in, family->features);
@@ -201,31 +201,37 @@ struct job {
     uint8_t *closed, *t, *replies;
 };
 
-static void engine_derive(const struct job *job)
+static bool engine_derive(const struct job *job, size_t times)
 {
     const struct input *in = job->in;
     size_t p = in->pairs, s = in->selections;
-    static uint16_t queue[33024];
-    bench_derive(job->closed, in->n * in->n, in->n, in->cells, p, in->lefts, p, in->rights, p,
-        in->subjects, s, in->features, s, in->children, s, queue);
+    return bench_derive(job->closed, in->n * in->n, in->n, in->cells, p, in->lefts, p, in->rights, p,
+        in->subjects, s, in->features, s, in->children, s, times);
 }
 
-static void engine_trials(const struct job *job)
+static bool engine_trials(const struct job *job)
 {
     const struct input *in = job->in;
-    size_t size = in->n * in->n, s = in->selections, q = in->questions;
-    bench_trials(job->closed, size, job->t, size, in->n, in->subjects, s, in->features, s, in->children, s,
-        in->counts, in->labels, in->kinds, q, in->firsts, q, in->numbers, q, in->seconds, q, job->replies, q);
+    size_t size = in->n * in->n, p = in->pairs, s = in->selections, q = in->questions;
+    return bench_trials(job->closed, size, job->t, size, in->n, in->cells, p, in->lefts, p, in->rights, p,
+        in->subjects, s, in->features, s, in->children, s, in->counts, in->labels,
+        in->kinds, q, in->firsts, q, in->numbers, q, in->seconds, q, job->replies, q);
 }
 
-static void run(const struct job *job)
+static bool trials(const struct job *job)
 {
-    if (job->engine)
-        (job->trials ? engine_trials : engine_derive)(job);
-    else if (job->trials)
-        reference_trials(job->in, job->closed, job->t, job->replies);
-    else
-        reference_derive(job->in, job->closed);
+    return job->engine ? engine_trials(job) : reference_trials(job->in, job->closed, job->t, job->replies);
+}
+
+// Runs a job so many times.
+static bool run(const struct job *job, size_t times)
+{
+    if (!job->trials)
+        return job->engine ? engine_derive(job, times) : reference_derive(job->in, job->closed, times);
+    for (size_t k = 0; k < times; k++)
+        if (!trials(job))
+            return false;
+    return true;
 }
 
 // Processor time in nanoseconds.
@@ -240,8 +246,8 @@ static double now(void)
 static double timed(const struct job *job, size_t times)
 {
     double start = now();
-    for (size_t k = 0; k < times; k++)
-        run(job);
+    if (!run(job, times))
+        exit(1);
     return (now() - start) / times;
 }
 
@@ -254,8 +260,8 @@ static double least(double a, double b)
 static double compare(const struct job *reference, const struct job *engine)
 {
     double once = least(timed(reference, 1), timed(reference, 1));
-    size_t times = 1 + 5e6 / once;
-    size_t rounds = once * times > 1e8 ? 5 : 15;
+    size_t times = 1 + 4e6 / once;
+    size_t rounds = once * times > 5e7 ? 8 : 40;
     double best[2] = { timed(reference, times), timed(engine, times) };
     for (size_t k = 0; k < rounds; k++) {
         best[0] = least(best[0], timed(reference, times));
@@ -282,7 +288,8 @@ static void agree(const struct family *family, const struct input *in)
         for (int trials = 0; trials < 2; trials++) {
             jobs[k].in = in;
             jobs[k].trials = trials;
-            run(&jobs[k]);
+            if (!run(&jobs[k], 1))
+                die(family, in->n, "the lists are refused");
         }
     if (memcmp(jobs[0].closed, jobs[1].closed, in->n * in->n) != 0)
         die(family, in->n, "the derived tables differ");
@@ -309,7 +316,7 @@ int main(void)
     for (int k = 0; k < 2; k++)
         jobs[k] = (struct job) { NULL, k == 1, false, tables[2 * k], tables[2 * k + 1], replies[k] };
     printf("%-26s %3s %13s %13s %6s %13s %13s %6s\n", "family", "n", "derive C ns", "engine ns", "ratio",
-        "trials C ns", "engine ns", "ratio");
+        "+ trials C ns", "engine ns", "ratio");
     for (size_t f = 0; f < sizeof families / sizeof *families; f++)
         for (size_t s = 0; s < 3; s++) {
             double ratio = measure(&families[f], sizes[s]);

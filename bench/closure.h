@@ -2,6 +2,7 @@
 #ifndef CLOSURE_H
 #define CLOSURE_H
 
+#include <stdbool.h>
 #include <stddef.h>
 #include <stdint.h>
 
@@ -27,20 +28,22 @@ struct input {
     uint8_t seconds[QUESTIONS];
 };
 
-// The reference: fills t with all facts; tells of each question whether it clashes, t being a table to work in.
-void reference_derive(const struct input *in, uint8_t *t);
-void reference_trials(const struct input *in, const uint8_t *closed, uint8_t *t, uint8_t *replies);
+// Each fills the table with all facts, so many times over; and derives it once and tells of each question whether it
+// clashes, with the second table as room to work in. Lists that are not lawful are refused.
+bool reference_derive(const struct input *in, uint8_t *t, size_t times);
+bool reference_trials(const struct input *in, uint8_t *closed, uint8_t *t, uint8_t *replies);
 
 // The engine's: a slice is a pointer and a length.
-void bench_derive(uint8_t *t, size_t t_length, size_t n, const uint8_t *cells, size_t cells_length,
+bool bench_derive(uint8_t *t, size_t t_length, size_t n, const uint8_t *cells, size_t cells_length,
     const uint8_t *lefts, size_t lefts_length, const uint8_t *rights, size_t rights_length,
     const uint8_t *subjects, size_t subjects_length, const uint16_t *features, size_t features_length,
-    const uint8_t *children, size_t children_length, uint16_t *queue);
-void bench_trials(const uint8_t *closed, size_t closed_length, uint8_t *t, size_t t_length, size_t n,
-    const uint8_t *subjects, size_t subjects_length, const uint16_t *features, size_t features_length,
-    const uint8_t *children, size_t children_length, const uint8_t *counts, const uint16_t *labels,
-    const uint8_t *kinds, size_t kinds_length, const uint8_t *firsts, size_t firsts_length,
-    const uint16_t *numbers, size_t numbers_length, const uint8_t *seconds, size_t seconds_length,
-    uint8_t *replies, size_t replies_length);
+    const uint8_t *children, size_t children_length, size_t times);
+bool bench_trials(uint8_t *closed, size_t closed_length, uint8_t *t, size_t t_length, size_t n,
+    const uint8_t *cells, size_t cells_length, const uint8_t *lefts, size_t lefts_length,
+    const uint8_t *rights, size_t rights_length, const uint8_t *subjects, size_t subjects_length,
+    const uint16_t *features, size_t features_length, const uint8_t *children, size_t children_length,
+    const uint8_t *counts, const uint16_t *labels, const uint8_t *kinds, size_t kinds_length,
+    const uint8_t *firsts, size_t firsts_length, const uint16_t *numbers, size_t numbers_length,
+    const uint8_t *seconds, size_t seconds_length, uint8_t *replies, size_t replies_length);
 
 #endif
