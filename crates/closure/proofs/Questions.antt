@@ -2,152 +2,70 @@
 use Prim.Native.Nat.{ℕ, _<_}
 use lib.ListN.{length}
 use mathlib.Core.Bool.{Bool, true, false}
-use mathlib.Core.List.{List, [], _∷_, _++_}
+use mathlib.Core.List.{List, List·Memᴰ·head}
+use mathlib.Core.Logic.{_⊎_, inl, inr}
 use mathlib.Core.Path.{_≡_, refl, sym, ap, _∙_}
-use native.Mathlib.Omega.{arith}
 use Rattle.sheet.specs.declared.items.Statement.{Statement}
 use Rattle.sheet.specs.declared.numbers.Feature.{Feature}
 use Rattle.sheet.specs.declared.numbers.Label.{Label}
 use Rattle.sheet.specs.declared.numbers.Variable.{Variable}
 use Rattle.sheet.specs.Statements.{Names}
-use Rattle.sheet.specs.Tests.{less, same}
 use Rattle.rules.specs.declared.clashes.Clash.{Clash}
-use Rattle.rules.specs.Connectives.{_or_}
-use Rattle.rules.specs.Stated.{selection, labelling, Stated}
+use Rattle.rules.specs.Stated.{selection, labelling}
 use Rattle.rules.specs.Facts.{Kind, ordered, compatible, fact}
-use Rattle.rules.specs.Tables.{says, facts}
+use Rattle.rules.specs.Tables.{facts}
 use Rattle.rules.specs.Clashes.{clashInRows, clashOf, isClash, clashes}
 use Rattle.rules.proofs.Lists.{all-with}
-use Rattle.rules.proofs.Logic.{contrary}
 use Rattle.facts.specs.Additions.{Said}
+use Rattle.facts.proofs.Sets.{among-none}
 use Rattle.selections.specs.Groups.{Grouped}
 use Rattle.selections.specs.Stands.{Selected, SelectionsStand}
+use Rattle.selections.proofs.Stands.{ListedIn, one-listed, only-listed, both-selected, statement-selections}
+use Rattle.selections.proofs.Stands.{other-than-selection}
 use Rattle.answers.specs.Cells.{Lent}
 use Rattle.answers.specs.Clashes.{ClashTold, LabelClashTold}
 use Rattle.answers.specs.Spreads.{spreadBelow, canClash}
-use Rattle.answers.proofs.Kept.{still, last-stated, stated-of}
 use Rattle.answers.proofs.OneLabel.{no-label}
 use Rattle.answers.proofs.Skip.{skip}
 use Rattle.closure.specs.Trials.{Nothing, WithOne, before, last, Searched, Tried, TryingFact, TryingSelection}
 use Rattle.closure.specs.Trials.{Restored, Standing, Consistent, Asking}
+use Rattle.closure.proofs.Stands.{kindCell, cell-small, statement-pairs, fact-said, said-fact, no-subject}
 use Rattle.closure.proofs.Tried.{States, still-clashes, tried-answer}
 
--- the fields of a statement, and the number of its kind
-kindNumber : Statement → ℕ
-kindNumber (Statement.Ordering i j) = 0
-kindNumber (Statement.Compatibility i j) = 1
-kindNumber (Statement.Selection i f j) = 2
-kindNumber (Statement.Labelling i a) = 3
-
-leftOf : Statement → ℕ
-leftOf (Statement.Ordering i j) = i .0
-leftOf (Statement.Compatibility i j) = i .0
-leftOf (Statement.Selection i f j) = i .0
-leftOf (Statement.Labelling i a) = i .0
-
-rightOf : Statement → ℕ
-rightOf (Statement.Ordering i j) = j .0
-rightOf (Statement.Compatibility i j) = j .0
-rightOf (Statement.Selection i f j) = j .0
-rightOf (Statement.Labelling i a) = 0
-
-featureOf : Statement → ℕ
-featureOf (Statement.Ordering i j) = 0
-featureOf (Statement.Compatibility i j) = 0
-featureOf (Statement.Selection i f j) = f .0
-featureOf (Statement.Labelling i a) = 0
-
--- a fact is told by its own cell alone
-unfoldable pub cellOf : Kind → ℕ
-cellOf ordered = 1
-cellOf compatible = 2
-
-pub cell-small : (kind : Kind) → cellOf kind < 4
-unfolding cellOf
-cell-small ordered = omega arith
-cell-small compatible = omega arith
-
-cell-told : (kind : Kind) → says kind (cellOf kind) ≡ true
-unfolding cellOf says same less _or_
-cell-told ordered = refl
-cell-told compatible = refl
-
-cell-only : (kind other : Kind) → says other (cellOf kind) ≡ true → other ≡ kind
-unfolding cellOf says same less _or_
-cell-only ordered ordered p = refl
-cell-only ordered compatible p = absurd (contrary p refl)
-cell-only compatible ordered p = absurd (contrary p refl)
-cell-only compatible compatible p = refl
-
--- two facts that are one statement are one fact
-same-kind : (kind other : Kind) (i j x y : ℕ) → fact other x y ≡ fact kind i j → other ≡ kind
-unfolding kindNumber
-same-kind ordered ordered i j x y e = refl
-same-kind ordered compatible i j x y e = absurd (omega (arith, ap kindNumber e))
-same-kind compatible ordered i j x y e = absurd (omega (arith, ap kindNumber e))
-same-kind compatible compatible i j x y e = refl
-
-left-fact : (kind : Kind) (i j : ℕ) → leftOf (fact kind i j) ≡ i
-unfolding leftOf
-left-fact ordered i j = refl
-left-fact compatible i j = refl
-
-right-fact : (kind : Kind) (i j : ℕ) → rightOf (fact kind i j) ≡ j
-unfolding rightOf
-right-fact ordered i j = refl
-right-fact compatible i j = refl
-
+-- the two variables of a fact
 fact-names : {n : ℕ} (kind : Kind) (i j : ℕ) → Names n (fact kind i j) → (i < n) × (j < n)
 fact-names ordered i j names = names
 fact-names compatible i j names = names
 
-no-selection : {C : Type 0} (kind : Kind) (i j x f y : ℕ) → selection x f y ≡ fact kind i j → C
-unfolding kindNumber
-no-selection ordered i j x f y e = absurd (omega (arith, ap kindNumber e))
-no-selection compatible i j x f y e = absurd (omega (arith, ap kindNumber e))
-
 -- a fact
 fact-states : {n : ℕ} {st : List Statement} {selected : Selected} (kind : Kind) (i j : ℕ)
-    → SelectionsStand n st selected → States n st (fact kind i j) selected (Said (cellOf kind) i j)
-fact-states {n} {st} kind i j stand =
+    → SelectionsStand n st selected → States n st (fact kind i j) selected (Said (kindCell kind) i j)
+fact-states kind i j stand =
     record {
       no-label = no-label kind i j;
-      selections =
-          record {
-            listed = λ x f y s. stated-of st _ s (stand .listed x f y) (no-selection kind i j x f y);
-            stated = λ x f y h p. still _ (stand .stated x f y h p);
-          };
-      told = λ other x y e.
-          record {
-            first = sym (left-fact other x y) ∙ ap leftOf e ∙ left-fact kind i j;
-            second = sym (right-fact other x y) ∙ ap rightOf e ∙ right-fact kind i j;
-            told = rw (same-kind kind other i j x y e) (cell-told kind);
-          };
-      only = λ other x y p. rw (p .first, p .second, cell-only kind other (p .told)) refl;
+      selections = other-than-selection (fact kind i j) (no-subject kind i j) stand;
+      told = λ other x y e. said-fact kind other i j x y e;
+      only = λ other x y p. fact-said kind other i j x y p;
     }
 
 -- a selection
+one-or-other : {selected : Selected} {i f j x g y : ℕ} → WithOne selected i f j x g y
+    → selected x g y ⊎ ListedIn (selection i f j) x g y
+one-or-other (before p) = inl p
+one-or-other {i = i} {f = f} {j = j} (last a b c) = inr (rw (a, b, c) (one-listed i f j))
+
 selection-states : {n : ℕ} {st : List Statement} {selected : Selected} (i f j : ℕ) → SelectionsStand n st selected
     → States n st (selection i f j) (WithOne selected i f j) Nothing
-unfolding leftOf featureOf rightOf
-selection-states {n} {st} {selected} i f j stand =
+selection-states {n} i f j stand =
     record {
       no-label = tt;
       selections =
-          record {
-            listed = λ x g y s.
-                stated-of st _ s (λ m. before (stand .listed x g y m))
-                (λ e. last (ap leftOf e) (ap featureOf e) (ap rightOf e));
-            stated = λ x g y h p. with-one x g y h p;
-          };
-      told = λ kind x y e. no-selection kind x y i f j (sym e);
+          both-selected stand (statement-selections n (selection i f j)) (λ x g y p. before p)
+          (λ x g y l. let e = only-listed l in last (sym (e .0)) (sym (e .1)) (sym (e .2)))
+          (λ x g y p. one-or-other p);
+      told = λ kind x y e. among-none (statement-pairs (selection i f j) .listed kind x y (List·Memᴰ·head e));
       only = λ kind x y p. absurd p;
     }
-  where
-    with-one : (x g y : ℕ) → x < n → WithOne selected i f j x g y → Stated (st ++ (selection i f j ∷ []))
-        (selection x g y)
-    with-one x g y h (before p) = still _ (stand .stated x g y h p)
-    with-one x g y h (last a b c) = rw (a, b, c) (last-stated st _)
 
 -- a statement whose first variable was read as a number
 read-selection : {q : Statement} {i : Variable} {f : Feature} {j : Variable} {x : ℕ} → q ≡ Statement.Selection i f j
@@ -161,7 +79,7 @@ read-label {a = a} e g = e ∙ ap (λ k. labelling k (a .0)) (sym g)
 -- what each kind tells, of statements that stand in the arrays and do not clash
 module _ {n : ℕ} {closed starts ends features children counts labels : List ℕ} where
   pub fact-told : {r : Bool} (kind : Kind) (i j : ℕ) (q : Statement) → q ≡ fact kind i j → Names n q
-      → Searched n (Grouped starts ends features children) (Said (cellOf kind) i j) closed counts labels r
+      → Searched n (Grouped starts ends features children) (Said (kindCell kind) i j) closed counts labels r
       → Tried n (Consistent n closed starts ends features children counts labels) q r
   fact-told kind i j q e names searched =
       rw e (record {
@@ -231,7 +149,7 @@ module _ {n : ℕ} {closed starts ends features children counts labels : List �
 module _ {n : ℕ} {closed t queue starts ends features children : List ℕ} {q : Statement}
     (asking : Asking n closed t queue starts ends features children q) where
   pub ask-fact : (kind : Kind) (i j : ℕ) → q ≡ fact kind i j
-      → TryingFact n t queue starts ends features children (cellOf kind) i j
+      → TryingFact n t queue starts ends features children (kindCell kind) i j
   ask-fact kind i j e =
       let names = fact-names kind i j (rw e at (asking .names)) in
       record {

@@ -17,13 +17,14 @@ use Rattle.rules.proofs.Logic.{contrary}
 use Rattle.facts.specs.Additions.{Facts, Said, Among}
 use Rattle.facts.proofs.Sets.{among-none}
 use Rattle.selections.proofs.Appended.{entriesOf, single, below-both, at-single, at-first, at-second, at-either}
+use Rattle.selections.proofs.Stands.{subjectIn}
 use Rattle.answers.proofs.Kept.{still, stated-of}
 use Rattle.closure.specs.Stands.{Pairs, Paired, PairsStand}
 
 -- the cell of a kind alone
-abbrev pub cellOf : Kind → ℕ
-cellOf ordered = 1
-cellOf compatible = 2
+abbrev pub kindCell : Kind → ℕ
+kindCell ordered = 1
+kindCell compatible = 2
 
 -- what a statement adds to a list: an entry where it is a fact
 abbrev entryOf : (Kind → ℕ → ℕ → ℕ) → Statement → List ℕ
@@ -33,7 +34,7 @@ entryOf field (Statement.Selection i f j) = []
 entryOf field (Statement.Labelling i a) = []
 
 abbrev pub cellIn : Statement → List ℕ
-cellIn = entryOf λ kind i j. cellOf kind
+cellIn = entryOf λ kind i j. kindCell kind
 
 abbrev pub leftIn : Statement → List ℕ
 leftIn = entryOf λ kind i j. i
@@ -151,12 +152,25 @@ unfolding says same less _or_
 fact-paired ordered i j = pair-of record { first = refl; second = refl; told = refl }
 fact-paired compatible i j = pair-of record { first = refl; second = refl; told = refl }
 
-fact-said : (kind other : Kind) (x y i j : ℕ) → Said (cellOf kind) x y other i j → fact other i j ≡ fact kind x y
+pub fact-said : (kind other : Kind) (x y i j : ℕ) → Said (kindCell kind) x y other i j → fact other i j ≡ fact kind x y
 unfolding says same less _or_
 fact-said ordered ordered x y i j p = rw (p .first, p .second) refl
 fact-said ordered compatible x y i j p = absurd (contrary (p .told) refl)
 fact-said compatible ordered x y i j p = absurd (contrary (p .told) refl)
 fact-said compatible compatible x y i j p = rw (p .first, p .second) refl
+
+-- the other way round, and a fact is no selection
+pub said-fact : (kind other : Kind) (x y i j : ℕ) → fact other i j ≡ fact kind x y → Said (kindCell kind) x y other i j
+said-fact ordered other x y i j e = said-of (subst (λ s. PairedIn s other i j) e (fact-paired other i j))
+said-fact compatible other x y i j e = said-of (subst (λ s. PairedIn s other i j) e (fact-paired other i j))
+
+pub no-subject : (kind : Kind) (i j : ℕ) → subjectIn (fact kind i j) ≡ []
+no-subject ordered i j = refl
+no-subject compatible i j = refl
+
+pub cell-small : (kind : Kind) → kindCell kind < 4
+cell-small ordered = omega arith
+cell-small compatible = omega arith
 
 is-stated : (q : Statement) (kind : Kind) (i j : ℕ) → PairedIn q kind i j → fact kind i j ≡ q
 is-stated (Statement.Ordering x y) kind i j a = fact-said ordered kind (x .0) (y .0) i j (said-of a)
@@ -186,12 +200,12 @@ other-than-pair {st} q none stand =
 
 module _ {n : ℕ} {cells lefts rights : List ℕ} (lawful : Pairs n cells lefts rights) where
   pub more-pairs : (kind : Kind) (i j : ℕ) → Names n (fact kind i j)
-      → Pairs n (cells ++ (cellOf kind ∷ [])) (lefts ++ (i ∷ [])) (rights ++ (j ∷ []))
+      → Pairs n (cells ++ (kindCell kind ∷ [])) (lefts ++ (i ∷ [])) (rights ++ (j ∷ []))
   more-pairs ordered i j names = both-pairs lawful (statement-lawful n (ordering i j) names)
   more-pairs compatible i j names = both-pairs lawful (statement-lawful n (compatibility i j) names)
 
   pub more-pairs-stand : {st : List Statement} (kind : Kind) (i j : ℕ) → PairsStand st cells lefts rights
-      → PairsStand (st ++ (fact kind i j ∷ [])) (cells ++ (cellOf kind ∷ [])) (lefts ++ (i ∷ [])) (rights ++ (j ∷ []))
+      → PairsStand (st ++ (fact kind i j ∷ [])) (cells ++ (kindCell kind ∷ [])) (lefts ++ (i ∷ [])) (rights ++ (j ∷ []))
   more-pairs-stand ordered i j stand =
       both-pairs-stand (lawful .lefts-too) (lawful .rights-too) stand (statement-pairs (ordering i j))
   more-pairs-stand compatible i j stand =

@@ -2,7 +2,7 @@
 use borrow.Author.Needs.{needs}
 use mathlib.Core.Path.{sym, ap₂, _∙_}
 use Rattle.rules.specs.Facts.{ordered, compatible, fact}
-use Rattle.closure.proofs.Questions.{untouched, cellOf, fact-told, selection-told, label-told, ask-fact}
+use Rattle.closure.proofs.Questions.{untouched, fact-told, selection-told, label-told, ask-fact}
 use Rattle.closure.proofs.Questions.{ask-selection, ask-label}
 use Rattle.closure.proofs.trials.try_statement.Statement.{statement}
 use Rattle.closure.proofs.trials.try_statement.Tie as tie
@@ -17,7 +17,6 @@ wide-requires-2 : tie.Need-wide-requires-2
 wide-requires-2 c κs = search needs
 
 fact-clashes-requires : tie.Need-fact-clashes-requires
-unfolding cellOf
 fact-clashes-requires c κs =
     let at-wide2 = c .before .before .before .before in
     let at-wide = at-wide2 .before in
@@ -38,7 +37,6 @@ wide-requires-4 : tie.Need-wide-requires-4
 wide-requires-4 c κs = search needs
 
 fact-clashes-requires-2 : tie.Need-fact-clashes-requires-2
-unfolding cellOf
 fact-clashes-requires-2 c κs =
     let at-wide4 = c .before .before .before .before in
     let at-wide3 = at-wide4 .before in
@@ -79,7 +77,6 @@ same-length : tie.Need-same-length
 same-length c = search needs
 
 returns : tie.Need-returns
-unfolding cellOf
 returns c =
     let at-fact-clashes = c .before .before in
     let at-wide2 = at-fact-clashes .before .before .before .before .before in
@@ -100,7 +97,6 @@ same-length-2 : tie.Need-same-length-2
 same-length-2 c = search needs
 
 returns-2 : tie.Need-returns-2
-unfolding cellOf
 returns-2 c =
     let start = c .before .before in
     let at-fact-clashes2 = start in
