@@ -14,6 +14,7 @@ use Rattle.rules.specs.Stated.{ordering, compatibility, selection, labelling}
 use Rattle.rules.specs.Clashes.{clashes}
 use Rattle.rules.proofs.Logic.{last-or-before}
 use Rattle.rules.specs.declared.clashes.Clash.{Clash}
+use Rattle.facts.specs.Queue.{queueRoom}
 use Rattle.answers.specs.declared.spread.Spread.{Spread}
 use Rattle.closure.specs.Trials.{Standing, Asking, Tried, Restored}
 use Rattle.bench.specs.Questions.{asked, askedAt, digit, Prepared, Replied, Replies}
@@ -102,7 +103,7 @@ pub record Going (n : ℕ) (closed starts ends₀ features₀ children₀ counts
 with-queue : {n : ℕ} {closed t queue starts ends features children counts labels : List ℕ} {clash : Clash}
     {spread : Spread} (t′ queue′ : List ℕ)
     → Prepared n closed t queue starts ends features children counts labels clash spread → t′ ≡ closed
-    → length queue′ ≡ 33024 → Prepared n closed t′ queue′ starts ends features children counts labels clash spread
+    → length queue′ ≡ queueRoom → Prepared n closed t′ queue′ starts ends features children counts labels clash spread
 with-queue t′ queue′ prepared copied room =
     let trying = prepared .trying in
     record {

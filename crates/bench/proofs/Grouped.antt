@@ -4,6 +4,7 @@ use lib.ListN.{length}
 use mathlib.Core.List.{List}
 use mathlib.Core.Path.{_≡_, sym, _∙_}
 use Rattle.rules.specs.declared.clashes.Clash.{Clash}
+use Rattle.facts.specs.Queue.{queueRoom}
 use Rattle.selections.specs.Listed.{Selections}
 use Rattle.selections.proofs.Theorems.{made-groups, made-spare, made-stand}
 use Rattle.answers.specs.declared.spread.Spread.{Spread}
@@ -31,7 +32,7 @@ module _ {n : ℕ} {cells lefts rights subjects features children : List ℕ}
     lists-lent = may-be-told lawful (made .grouping) (made .from)
 
     pub prepared : {t queue counts labels : List ℕ} {clash : Clash} {spread : Spread} → t ≡ closed
-        → length queue ≡ 33024 → ClashTold n closed counts labels clash → spread ≡ spreadBelow n counts labels
+        → length queue ≡ queueRoom → ClashTold n closed counts labels clash → spread ≡ spreadBelow n counts labels
         → Prepared n closed t queue starts ends group-features group-children counts labels clash spread
     prepared copied room clash spread =
         record {

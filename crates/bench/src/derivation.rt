@@ -2,9 +2,11 @@
 use crate::lists::lawful;
 use closure::derive;
 use facts::ROOM;
+use selections::PLACES;
 use selections::group;
 ghost use lib.ListN.{length};
 ghost use mathlib.Core.Path.{_≡_};
+ghost use Rattle.facts.specs.Queue.{queueRoom};
 ghost use Rattle.bench.specs.Lists.{Lawful, ListsDerive, DerivationTold};
 ghost use Rattle.bench.specs.Made.{Made};
 
@@ -20,17 +22,17 @@ pub fn make(
     children: &[u8],
     starts: &mut [usize; 128],
     ends: &mut [usize; 128],
-    group_features: &mut [u16; 1152],
-    group_children: &mut [u8; 1152],
+    group_features: &mut [u16; PLACES],
+    group_children: &mut [u8; PLACES],
     queue: &mut [u16; ROOM],
 )
     requires { ⌜ Lawful n (now cells) (now lefts) (now rights) (now subjects) (now features) (now children)
         (length (now t)) ⌝ }
-    requires { ⌜ length (now queue) ≡ 33024 ⌝ }
+    requires { ⌜ length (now queue) ≡ queueRoom ⌝ }
     ensures { λ r. ⌜ Made n (now (cells .entry)) (now (lefts .entry)) (now (rights .entry)) (now (subjects .entry))
         (now (features .entry)) (now (children .entry)) (now (starts .exit)) (now (ends .exit))
         (now («group_features» .exit)) (now («group_children» .exit)) (now (t .exit)) ⌝ }
-    ensures { λ r. ⌜ length (now (queue .exit)) ≡ 33024 ⌝ }
+    ensures { λ r. ⌜ length (now (queue .exit)) ≡ queueRoom ⌝ }
 {
     group(
         n,
@@ -75,8 +77,8 @@ fn make_again(
 {
     let mut starts = [0usize; 128];
     let mut ends = [0usize; 128];
-    let mut group_features = [0u16; 1152];
-    let mut group_children = [0u8; 1152];
+    let mut group_features = [0u16; PLACES];
+    let mut group_children = [0u8; PLACES];
     let mut queue = [0u16; ROOM];
     make(
         t,

@@ -8,6 +8,7 @@ use closure::trial;
 use facts::ROOM;
 use facts::copy;
 use rules::Clash;
+use selections::PLACES;
 use sheet::Feature;
 use sheet::Label;
 use sheet::Statement;
@@ -59,8 +60,8 @@ fn reply(
     second: u8,
     starts: &[usize; 128],
     ends: &mut [usize; 128],
-    features: &mut [u16; 1152],
-    children: &mut [u8; 1152],
+    features: &mut [u16; PLACES],
+    children: &mut [u8; PLACES],
     counts: &[u8; 128],
     labels: &[u16; 128],
     queue: &mut [u16; ROOM],
@@ -103,8 +104,8 @@ fn reply_all(
     spread: Spread,
     starts: &[usize; 128],
     ends: &mut [usize; 128],
-    features: &mut [u16; 1152],
-    children: &mut [u8; 1152],
+    features: &mut [u16; PLACES],
+    children: &mut [u8; PLACES],
     counts: &[u8; 128],
     labels: &[u16; 128],
     kinds: &[u8],
@@ -181,8 +182,8 @@ fn derive_and_reply(
 {
     let mut starts = [0usize; 128];
     let mut ends = [0usize; 128];
-    let mut group_features = [0u16; 1152];
-    let mut group_children = [0u8; 1152];
+    let mut group_features = [0u16; PLACES];
+    let mut group_children = [0u8; PLACES];
     let mut queue = [0u16; ROOM];
     make(
         closed,

@@ -13,7 +13,7 @@ use Rattle.rules.specs.Facts.{Kind, ordered, compatible, Holds}
 use Rattle.rules.specs.Tables.{says, facts}
 use Rattle.rules.specs.Derived.{factsOf}
 use Rattle.rules.proofs.Tables.{fact-column, zeros-shape, zeros-empty}
-use Rattle.facts.specs.Queue.{State, state, Ready}
+use Rattle.facts.specs.Queue.{State, state, Ready, queueRoom}
 use Rattle.facts.specs.Additions.{Said, Among, Moves, Added, Framed, Steps}
 use Rattle.facts.specs.Insertion.{Inserting}
 use Rattle.facts.proofs.Moving.{moves-then, ready-after}
@@ -51,7 +51,7 @@ pair-steps {n} {s} {s′} w a b x y left right steps =
     subst (λ i. Steps n (Said w i y) s s′) left (subst (λ j. Steps n (Said w a j) s s′) right steps)
 
 -- a table of no facts, and a queue without entries
-pub zeros-ready : (n : ℕ) (t queue : List ℕ) → n ≤ 128 → t ≡ replicate (n * n) 0 → length queue ≡ 33024
+pub zeros-ready : (n : ℕ) (t queue : List ℕ) → n ≤ 128 → t ≡ replicate (n * n) 0 → length queue ≡ queueRoom
     → Ready n (state t queue 0)
 zeros-ready n t queue few zeros size =
     record {

@@ -18,6 +18,7 @@ use Rattle.rules.specs.Clashes.{clashInRows, clashOf, isClash, clashes}
 use Rattle.rules.proofs.Lists.{all-with}
 use Rattle.facts.specs.Additions.{Said}
 use Rattle.facts.proofs.Sets.{among-none}
+use Rattle.facts.specs.Queue.{queueRoom}
 use Rattle.selections.specs.Groups.{Grouped}
 use Rattle.selections.specs.Stands.{Selected, SelectionsStand}
 use Rattle.selections.proofs.Stands.{ListedIn, one-listed, only-listed, both-selected, statement-selections}
@@ -170,6 +171,6 @@ module _ {n : ℕ} {closed t queue starts ends features children : List ℕ} {q 
       (record { few = asking .trying .few; shape = asking .trying .shape }, rw (read-label d g) at (asking .names))
 
 -- groups that were only read
-pub untouched : {ends features children : List ℕ} (queue : List ℕ) → length queue ≡ 33024
+pub untouched : {ends features children : List ℕ} (queue : List ℕ) → length queue ≡ queueRoom
     → Restored ends features children ends features children queue
 untouched queue room = record { same-ends = refl; same-features = refl; same-children = refl; room = room }

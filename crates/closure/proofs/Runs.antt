@@ -11,7 +11,7 @@ use Rattle.rules.specs.Facts.{Kind, Relation, Holds, Within}
 use Rattle.rules.specs.Tables.{facts}
 use Rattle.rules.proofs.Logic.{decided}
 use Rattle.rules.proofs.Tables.{fact-row, fact-column}
-use Rattle.facts.specs.Queue.{firstOf, secondOf, Queued, State, Ready}
+use Rattle.facts.specs.Queue.{firstOf, secondOf, Queued, State, Ready, queueRoom}
 use Rattle.facts.specs.Additions.{Moves, Framed, Steps}
 use Rattle.facts.proofs.Moving.{wider, carried, moves-none, moves-then, ready-after, fact-bound}
 use Rattle.selections.specs.Groups.{Grouped}
@@ -21,7 +21,7 @@ use Rattle.closure.specs.Settled.{Handed, Descends, Pending, Starting, S
 use Rattle.closure.proofs.Descending.{running-on}
 
 -- the queue is no longer than its room
-pub tail-bound : {n : ℕ} {s : State} → Ready n s → s .tail ≤ 33024
+pub tail-bound : {n : ℕ} {s : State} → Ready n s → s .tail ≤ queueRoom
 tail-bound {n} {s} ready = omega (arith, ready .room, fact-bound n (s .table))
 
 -- what is handed down in a set of facts is so in a larger one

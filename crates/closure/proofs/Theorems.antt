@@ -12,6 +12,7 @@ use Rattle.rules.specs.Tables.{facts, countFacts}
 use Rattle.rules.specs.Derived.{derived, factsOf}
 use Rattle.rules.specs.Clashes.{clashInRows, clashOf, isClash, clashes}
 use Rattle.rules.specs.Support.{supported}
+use Rattle.facts.specs.Queue.{queueRoom}
 use Rattle.selections.specs.Listed.{Selections, Listed}
 use Rattle.selections.specs.Places.{Grouping}
 use Rattle.selections.specs.Stands.{SelectionsStand}
@@ -40,7 +41,7 @@ module _ {n : ℕ} {subjects features children starts₀ ends₀ features₀ chi
     may-be-told = record { few = lawful .few; shape = from .shape }
 
     -- a question may be tried in a copy of it
-    pub may-ask : (work queue : List ℕ) (q : Statement) → work ≡ t → length queue ≡ 33024 → Names n q
+    pub may-ask : (work queue : List ℕ) (q : Statement) → work ≡ t → length queue ≡ queueRoom → Names n q
         → Asking n t work queue starts ends group-features group-children q
     may-ask work queue q copied room named =
         record {

@@ -12,7 +12,7 @@ use Rattle.rules.specs.Facts.{Kind, Holds}
 use Rattle.rules.specs.Tables.{facts, Shape}
 use Rattle.rules.proofs.Logic.{last-or-before}
 use Rattle.rules.proofs.Tables.{fact-row, fact-column}
-use Rattle.facts.specs.Queue.{firstOf, secondOf, State, state, Queued, Entry, Ready}
+use Rattle.facts.specs.Queue.{firstOf, secondOf, State, state, Queued, Entry, Ready, queueRoom}
 use Rattle.facts.specs.Additions.{Facts, Said, Steps}
 use Rattle.facts.specs.Insertion.{Inserting}
 use Rattle.facts.specs.Restoring.{Restoring}
@@ -24,7 +24,7 @@ use Rattle.closure.specs.Trials.{Trying, TryingFact, Tries, Queueing, Su
 use Rattle.closure.proofs.Runs.{tail-bound, handed-on}
 
 -- as many entries as the pairs of one variable leave room for all facts
-pub few-entries : (n tail count : ℕ) → n ≤ 128 → tail ≤ 2 * n → tail + 2 * (n * n) ≤ 33024 + count
+pub few-entries : (n tail count : ℕ) → n ≤ 128 → tail ≤ 2 * n → tail + 2 * (n * n) ≤ queueRoom + count
 few-entries n tail count few h = omega (arith, mul-le-mul few few)
 
 module _ {n : ℕ} {t queue starts ends features children : List ℕ} {w i j : ℕ}
@@ -180,7 +180,7 @@ subject-start queueing =
 module _ {n i x tail : ℕ} {queue₀ queue : List ℕ} (queueing : Queueing n i queue₀)
     (so-far : SubjectQueued n i x queue tail)
     (h : x < n) where
-  pub subject-room : tail + 1 < 33024
+  pub subject-room : tail + 1 < queueRoom
   subject-room = omega (arith, so-far .count, queueing .few)
 
   module _ (tail₁ tail₂ : ℕ) (queue₁ queue₂ : List ℕ) (moved₁ : tail₁ ≡ tail + 1)

@@ -14,7 +14,7 @@ use Rattle.rules.proofs.Tables.{fact-row, fact-column}
 use Rattle.facts.specs.Queue.{State, state, Ready}
 use Rattle.facts.proofs.Moving.{ready-after, wider}
 use Rattle.selections.specs.declared.trial.Kept.{Kept}
-use Rattle.selections.specs.Groups.{Grouped}
+use Rattle.selections.specs.Groups.{Grouped, groupPlaces}
 use Rattle.selections.specs.Trial.{Put}
 use Rattle.selections.proofs.Theorems.{put-groups, put-each, put-no-other}
 use Rattle.selections.specs.Stands.{Selected}
@@ -25,7 +25,7 @@ use Rattle.closure.proofs.Trying.{few-entries}
 
 module _ {n : ℕ} {t queue starts ends features children : List ℕ} {i j : ℕ}
     (trying : TryingSelection n t queue starts ends features children i j) where
-  pub selection-room : (i < 128) × (getD ends i 0 < 1152)
+  pub selection-room : (i < 128) × (getD ends i 0 < groupPlaces)
   selection-room =
       (omega (arith, trying .trying .few, trying .subject), trying .trying .spare .room i (trying .subject))
 

@@ -10,7 +10,7 @@ use Rattle.rules.specs.Tables.{cellAt, facts, Shape}
 use Rattle.facts.specs.Cells.{isLacking}
 use Rattle.facts.specs.Queue.{firstOf, secondOf, Entry, State, Ready}
 use Rattle.facts.specs.Additions.{Facts, Said, Among, Framed}
-use Rattle.selections.specs.Groups.{Grouped, Groups}
+use Rattle.selections.specs.Groups.{Grouped, Groups, groupPlaces}
 
 -- where the place k has the feature f, w is told of i and the child there
 pub record Under (features children : List ℕ) (w f i k : ℕ) (kind : Kind) (x y : ℕ) : Type 0 where
@@ -45,7 +45,7 @@ pub record Telling (n : ℕ) (t children : List ℕ) (i k : ℕ) : Type 0 where
   pub few : n ≤ 128
   pub shape : Shape n t
   pub child : i < n
-  pub place : k < 1152
+  pub place : k < groupPlaces
   pub other : getD children k 0 < n
 
 -- the place has the feature, and w is not told yet of i and the child there
@@ -58,7 +58,7 @@ pub record Seeking (n : ℕ) (t children : List ℕ) (i from end : ℕ) : Type 0
   pub few : n ≤ 128
   pub shape : Shape n t
   pub child : i < n
-  pub room : end ≤ 1152
+  pub room : end ≤ groupPlaces
   pub others : (k : ℕ) → from ≤ k → k < end → getD children k 0 < n
 
 -- the first such place from one on, if there is one before the end

@@ -11,7 +11,7 @@ use Rattle.rules.specs.Facts.{Kind, Relation, Holds, Within}
 use Rattle.rules.specs.Tables.{facts, Shape}
 use Rattle.rules.specs.Derived.{derived}
 use Rattle.rules.specs.Clashes.{clashesAt, clashes}
-use Rattle.facts.specs.Queue.{firstOf, secondOf, Queued, Entry}
+use Rattle.facts.specs.Queue.{firstOf, secondOf, Queued, Entry, queueRoom}
 use Rattle.facts.specs.Additions.{Facts, Framed}
 use Rattle.selections.specs.Groups.{Grouped, Groups, Spare}
 use Rattle.selections.specs.Stands.{Selected, SelectionsStand}
@@ -24,7 +24,7 @@ pub record Trying (n : ℕ) (t queue starts ends features children : List ℕ) :
   pub shape : Shape n t
   pub framed : Framed n (facts n t)
   pub descends : Descends n (Grouped starts ends features children) (facts n t)
-  pub queue-size : length queue ≡ 33024
+  pub queue-size : length queue ≡ queueRoom
   pub groups : Groups n starts ends features children
   pub spare : Spare n starts ends
 
@@ -61,8 +61,8 @@ pub record Tries (n : ℕ) (selected : Selected) (P : Facts) (closed t queue : L
   pub within : (r : Relation) → Framed n r → Descends n selected r → Within (facts n closed) r
       → ((kind : Kind) (i j : ℕ) → P kind i j → Holds r kind i j) → Within (facts n t) r
   pub begin : from ≤ tail
-  pub room : tail ≤ 33024
-  pub size : length queue ≡ 33024
+  pub room : tail ≤ queueRoom
+  pub size : length queue ≡ queueRoom
   pub entries : (k : ℕ) → k < tail → Entry n (getD queue k 0)
   pub queued : (kind : Kind) (i j : ℕ) → Holds (facts n t) kind i j
       → Holds (facts n closed) kind i j ⊎ Queued queue from tail i j
@@ -72,17 +72,17 @@ pub record Restored (ends features children ends′ features′ children′ queu
   pub same-ends : ends′ ≡ ends
   pub same-features : features′ ≡ features
   pub same-children : children′ ≡ children
-  pub room : length queue ≡ 33024
+  pub room : length queue ≡ queueRoom
 
 -- the pairs of i are to be queued
 pub record Queueing (n i : ℕ) (queue : List ℕ) : Type 0 where
   pub few : n ≤ 128
   pub subject : i < n
-  pub size : length queue ≡ 33024
+  pub size : length queue ≡ queueRoom
 
 -- the pairs of i with each variable below x are the entries
 pub record SubjectQueued (n i x : ℕ) (queue : List ℕ) (tail : ℕ) : Type 0 where
-  pub size : length queue ≡ 33024
+  pub size : length queue ≡ queueRoom
   pub count : tail ≡ 2 * x
   pub entries : (k : ℕ) → k < tail → Entry n (getD queue k 0)
   pub left : (y : ℕ) → y < x → Queued queue 0 tail i y
@@ -107,7 +107,7 @@ pub record Sought (n : ℕ) (t queue : List ℕ) (from tail : ℕ) : Type 0 wher
   pub few : n ≤ 128
   pub shape : Shape n t
   pub begin : from ≤ tail
-  pub room : tail ≤ 33024
+  pub room : tail ≤ queueRoom
   pub entries : (k : ℕ) → k < tail → Entry n (getD queue k 0)
 
 -- F5 applies to an entry, from one place up to another

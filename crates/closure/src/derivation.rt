@@ -5,10 +5,11 @@ use facts::ROOM;
 use facts::clear;
 use facts::insert;
 use facts::insert_reflexive;
+use selections::PLACES;
 ghost use Prim.Native.Nat.{_*_};
 ghost use lib.ListN.{length};
 ghost use mathlib.Core.Path.{_≡_};
-ghost use Rattle.facts.specs.Queue.{state};
+ghost use Rattle.facts.specs.Queue.{state, queueRoom};
 ghost use Rattle.facts.specs.Additions.{Steps};
 ghost use Rattle.closure.specs.Stands.{Paired, InsertingPairs, Deriving, DerivedFrom};
 
@@ -44,16 +45,16 @@ pub fn derive(
     rights: &[u8],
     starts: &[usize; 128],
     ends: &[usize; 128],
-    features: &[u16; 1152],
-    children: &[u8; 1152],
+    features: &[u16; PLACES],
+    children: &[u8; PLACES],
     queue: &mut [u16; ROOM],
 )
-    requires { ⌜ (length (now t) ≡ n * n) × (length (now queue) ≡ 33024) ⌝ }
+    requires { ⌜ (length (now t) ≡ n * n) × (length (now queue) ≡ queueRoom) ⌝ }
     requires { ⌜ Deriving n (now cells) (now lefts) (now rights) (now starts) (now ends) (now features)
         (now children) ⌝ }
     ensures { λ r. ⌜ DerivedFrom n (now (cells .entry)) (now (lefts .entry)) (now (rights .entry)) (now (starts .entry))
         (now (ends .entry)) (now (features .entry)) (now (children .entry)) (now (t .exit)) ⌝ }
-    ensures { λ r. ⌜ length (now (queue .exit)) ≡ 33024 ⌝ }
+    ensures { λ r. ⌜ length (now (queue .exit)) ≡ queueRoom ⌝ }
 {
     clear(t);
     let mut tail = insert_reflexive(t, n, queue);

@@ -6,6 +6,7 @@ use facts::insert;
 use facts::lacks;
 use facts::look;
 use facts::second_of;
+use selections::PLACES;
 ghost use mathlib.Core.Path.{_≡_};
 ghost use Rattle.facts.specs.Queue.{state};
 ghost use Rattle.facts.specs.Additions.{Steps};
@@ -21,8 +22,8 @@ fn is_new(
     w: u8,
     f: u16,
     i: usize,
-    features: &[u16; 1152],
-    children: &[u8; 1152],
+    features: &[u16; PLACES],
+    children: &[u8; PLACES],
     at: usize,
 ) -> bool
     requires { ⌜ Telling n (now t) (now children) i at ⌝ }
@@ -41,8 +42,8 @@ fn seek(
     w: u8,
     f: u16,
     i: usize,
-    features: &[u16; 1152],
-    children: &[u8; 1152],
+    features: &[u16; PLACES],
+    children: &[u8; PLACES],
     from: usize,
     end: usize,
 ) -> usize
@@ -69,8 +70,8 @@ fn tell_all(
     v: usize,
     starts: &[usize; 128],
     ends: &[usize; 128],
-    features: &[u16; 1152],
-    children: &[u8; 1152],
+    features: &[u16; PLACES],
+    children: &[u8; PLACES],
     queue: &mut [u16; ROOM],
     tail: usize,
 ) -> usize
@@ -99,8 +100,8 @@ fn hand_down(
     v: usize,
     starts: &[usize; 128],
     ends: &[usize; 128],
-    features: &[u16; 1152],
-    children: &[u8; 1152],
+    features: &[u16; PLACES],
+    children: &[u8; PLACES],
     queue: &mut [u16; ROOM],
     tail: usize,
 ) -> usize
@@ -140,8 +141,8 @@ fn visit(
     entry: u16,
     starts: &[usize; 128],
     ends: &[usize; 128],
-    features: &[u16; 1152],
-    children: &[u8; 1152],
+    features: &[u16; PLACES],
+    children: &[u8; PLACES],
     queue: &mut [u16; ROOM],
     tail: usize,
 ) -> usize
@@ -167,8 +168,8 @@ pub fn run(
     n: usize,
     starts: &[usize; 128],
     ends: &[usize; 128],
-    features: &[u16; 1152],
-    children: &[u8; 1152],
+    features: &[u16; PLACES],
+    children: &[u8; PLACES],
     queue: &mut [u16; ROOM],
     tail: usize,
 ) -> usize

@@ -14,6 +14,7 @@ use facts::restore;
 use facts::says_compatible;
 use facts::second_of;
 use rules::Clash;
+use selections::PLACES;
 use selections::put;
 use selections::take_out;
 use sheet::Statement;
@@ -22,6 +23,7 @@ ghost use lib.ListN.{length};
 ghost use mathlib.Core.Path.{_≡_};
 ghost use Rattle.rules.specs.Clashes.{isClash};
 ghost use Rattle.facts.specs.Additions.{Said};
+ghost use Rattle.facts.specs.Queue.{queueRoom};
 ghost use Rattle.selections.specs.Groups.{Grouped};
 ghost use Rattle.answers.specs.Clashes.{ClashTold};
 ghost use Rattle.answers.specs.Spreads.{spreadBelow};
@@ -38,8 +40,8 @@ fn try_fact(
     j: usize,
     starts: &[usize; 128],
     ends: &[usize; 128],
-    features: &[u16; 1152],
-    children: &[u8; 1152],
+    features: &[u16; PLACES],
+    children: &[u8; PLACES],
     queue: &mut [u16; ROOM],
 ) -> usize
     requires { ⌜ TryingFact n (now t) (now queue) (now starts) (now ends) (now features) (now children) w i j ⌝ }
@@ -75,8 +77,8 @@ fn try_selection(
     j: u8,
     starts: &[usize; 128],
     ends: &mut [usize; 128],
-    features: &mut [u16; 1152],
-    children: &mut [u8; 1152],
+    features: &mut [u16; PLACES],
+    children: &mut [u8; PLACES],
     queue: &mut [u16; ROOM],
 ) -> usize
     requires { ⌜ TryingSelection n (now t) (now queue) (now starts) (now ends) (now features) (now children) i j ⌝ }
@@ -141,8 +143,8 @@ fn fact_clashes(
     j: usize,
     starts: &[usize; 128],
     ends: &[usize; 128],
-    features: &[u16; 1152],
-    children: &[u8; 1152],
+    features: &[u16; PLACES],
+    children: &[u8; PLACES],
     counts: &[u8; 128],
     labels: &[u16; 128],
     queue: &mut [u16; ROOM],
@@ -153,7 +155,7 @@ fn fact_clashes(
         (Grouped (now (starts .entry)) (now (ends .entry)) (now (features .entry)) (now (children .entry)))
         (Said w i j) (now (closed .entry)) (now (counts .entry)) (now (labels .entry)) r ⌝ }
     ensures { λ r. ⌜ now (t .exit) ≡ now (closed .entry) ⌝ }
-    ensures { λ r. ⌜ length (now (queue .exit)) ≡ 33024 ⌝ }
+    ensures { λ r. ⌜ length (now (queue .exit)) ≡ queueRoom ⌝ }
 {
     let tail = try_fact(t, n, w, i, j, starts, ends, features, children, queue);
     let found = clash_queued(t, n, counts, labels, queue, 0, tail);
@@ -171,8 +173,8 @@ fn selection_clashes(
     j: u8,
     starts: &[usize; 128],
     ends: &mut [usize; 128],
-    features: &mut [u16; 1152],
-    children: &mut [u8; 1152],
+    features: &mut [u16; PLACES],
+    children: &mut [u8; PLACES],
     counts: &[u8; 128],
     labels: &[u16; 128],
     queue: &mut [u16; ROOM],
@@ -202,8 +204,8 @@ fn try_statement(
     q: Statement,
     starts: &[usize; 128],
     ends: &mut [usize; 128],
-    features: &mut [u16; 1152],
-    children: &mut [u8; 1152],
+    features: &mut [u16; PLACES],
+    children: &mut [u8; PLACES],
     counts: &[u8; 128],
     labels: &[u16; 128],
     queue: &mut [u16; ROOM],
@@ -275,8 +277,8 @@ fn try_where_labels_differ(
     q: Statement,
     starts: &[usize; 128],
     ends: &mut [usize; 128],
-    features: &mut [u16; 1152],
-    children: &mut [u8; 1152],
+    features: &mut [u16; PLACES],
+    children: &mut [u8; PLACES],
     counts: &[u8; 128],
     labels: &[u16; 128],
     queue: &mut [u16; ROOM],
@@ -328,8 +330,8 @@ pub fn trial(
     q: Statement,
     starts: &[usize; 128],
     ends: &mut [usize; 128],
-    features: &mut [u16; 1152],
-    children: &mut [u8; 1152],
+    features: &mut [u16; PLACES],
+    children: &mut [u8; PLACES],
     counts: &[u8; 128],
     labels: &[u16; 128],
     queue: &mut [u16; ROOM],

@@ -15,7 +15,7 @@ use Rattle.rules.specs.Tables.{says, cellAt, facts, Shape}
 use Rattle.rules.proofs.Logic.{either-first, either-second, either-of}
 use Rattle.rules.proofs.Tables.{fact-row, fact-column, fact-said}
 use Rattle.facts.specs.Cells.{withCell}
-use Rattle.facts.specs.Queue.{firstOf, secondOf, Queued, State, state, factCount}
+use Rattle.facts.specs.Queue.{firstOf, secondOf, Queued, State, state, factCount, queueRoom}
 use Rattle.facts.specs.Additions.{Said, Added}
 use Rattle.facts.specs.Insertion.{Taking}
 use Rattle.facts.proofs.Joined.{joined-small, joined-says, says-already, gains}
@@ -90,7 +90,7 @@ module _ (n : ℕ) (s : State) (w x y : ℕ) (taking : Taking n s w x y) where
         (fact-said n (s .table) kind x y (taking .first) (taking .second) ∙ q))
         changed
 
-    pub has-room : s .tail < 33024
+    pub has-room : s .tail < queueRoom
     has-room = omega (arith, more, fact-bound n new, taking .ready .room)
 
     abbrev entry : ℕ
@@ -170,7 +170,7 @@ module _ (n : ℕ) (s : State) (w x y cell : ℕ) (taking : Taking n s w x y) (e
   looked : (bitOr cell w ≡ cell → ⊥) → bitOr (cellAt n (s .table) x y) w ≡ cellAt n (s .table) x y → ⊥
   looked changed same = changed (ap (λ z. bitOr z w) e ∙ same ∙ sym e)
 
-  pub take-room : (bitOr cell w ≡ cell → ⊥) → s .tail < 33024
+  pub take-room : (bitOr cell w ≡ cell → ⊥) → s .tail < queueRoom
   take-room changed = has-room n s w x y taking (looked changed)
 
   pub take-one : (bitOr cell w ≡ cell → ⊥) → (t queue : List ℕ) (tail : ℕ)

@@ -6,6 +6,10 @@ use mathlib.Core.Path.{_≡_}
 use Rattle.rules.specs.Facts.{ordered, compatible}
 use Rattle.rules.specs.Tables.{facts, Shape, countFacts}
 
+-- how many entries there is room for: one for each fact of 128 variables, and one for each pair of a variable on trial
+abbrev pub queueRoom : ℕ
+queueRoom = 33024
+
 -- the two variables of an entry
 abbrev pub firstOf : ℕ → ℕ
 firstOf entry = entry / 256
@@ -43,6 +47,6 @@ factCount n t = countFacts n (facts n t) ordered + countFacts n (facts n t) comp
 pub record Ready (n : ℕ) (s : State) : Type 0 where
   pub few : n ≤ 128
   pub shape : Shape n (s .table)
-  pub size : length (s .queue) ≡ 33024
-  pub room : s .tail + 2 * (n * n) ≤ 33024 + factCount n (s .table)
+  pub size : length (s .queue) ≡ queueRoom
+  pub room : s .tail + 2 * (n * n) ≤ queueRoom + factCount n (s .table)
   pub entries : (k : ℕ) → k < s .tail → Entry n (getD (s .queue) k 0)

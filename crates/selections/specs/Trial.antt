@@ -4,6 +4,7 @@ use lib.ListN.{length, getD, set}
 use mathlib.Core.List.{List}
 use mathlib.Core.Path.{_≡_}
 use Rattle.selections.specs.declared.trial.Kept.{Kept}
+use Rattle.selections.specs.Groups.{groupPlaces}
 
 -- i has a group, and the place behind it is among those lent
 pub record Room (i : ℕ) (ends features children : List ℕ) : Type 0 where
@@ -25,8 +26,8 @@ pub record Put (i f j : ℕ) (ends features children ends′ features′ childre
   pub added : Appended i f j ends features children ends′ features′ children′ kept
   pub room : Room i ends features children
   pub ends-size : length ends ≡ 128
-  pub features-size : length features ≡ 1152
-  pub children-size : length children ≡ 1152
+  pub features-size : length features ≡ groupPlaces
+  pub children-size : length children ≡ groupPlaces
 
 -- the group of i ends at the place kept, where stands again what was kept
 pub record TakenOut (i : ℕ) (kept : Kept) (ends features children ends′ features′ children′ : List ℕ) : Type 0 where

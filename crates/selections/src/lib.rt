@@ -2,6 +2,7 @@
 mod grouping;
 mod trial;
 
+pub use grouping::PLACES;
 pub use grouping::group;
 pub use trial::Kept;
 pub use trial::put;

@@ -1,7 +1,9 @@
 // A selection on trial: put at the free place behind a group, and taken out again.
+use crate::grouping::PLACES;
 ghost use Prim.Native.Nat.{_<_};
 ghost use lib.ListN.{getD};
 ghost use Rattle.selections.specs.Trial.{Room, Appended, Put, TakenOut};
+ghost use Rattle.selections.specs.Groups.{groupPlaces};
 
 // What stood at the place that a selection on trial took.
 pub struct Kept {
@@ -38,13 +40,13 @@ pub fn append(
 // Adds i[f]j on trial.
 pub fn put(
     ends: &mut [usize; 128],
-    features: &mut [u16; 1152],
-    children: &mut [u8; 1152],
+    features: &mut [u16; PLACES],
+    children: &mut [u8; PLACES],
     i: usize,
     f: u16,
     j: u8,
 ) -> Kept
-    requires { ⌜ (i < 128) × (getD (now ends) i 0 < 1152) ⌝ }
+    requires { ⌜ (i < 128) × (getD (now ends) i 0 < groupPlaces) ⌝ }
     ensures { λ r. ⌜ Put i f j (now (ends .entry)) (now (features .entry)) (now (children .entry))
         (now (ends .exit)) (now (features .exit)) (now (children .exit)) r ⌝ }
 {
@@ -54,12 +56,12 @@ pub fn put(
 // Takes the selection on trial out of the group of i.
 pub fn take_out(
     ends: &mut [usize; 128],
-    features: &mut [u16; 1152],
-    children: &mut [u8; 1152],
+    features: &mut [u16; PLACES],
+    children: &mut [u8; PLACES],
     i: usize,
     kept: Kept,
 )
-    requires { ⌜ (i < 128) × (kept .at < 1152) ⌝ }
+    requires { ⌜ (i < 128) × (kept .at < groupPlaces) ⌝ }
     ensures { λ r. ⌜ TakenOut i kept (now (ends .entry)) (now (features .entry)) (now (children .entry))
         (now (ends .exit)) (now (features .exit)) (now (children .exit)) ⌝ }
 {

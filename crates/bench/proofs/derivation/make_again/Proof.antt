@@ -3,6 +3,7 @@ use Prim.Native.Nat.{_*_, _-_}
 use lib.ListN.{length}
 use mathlib.Core.Path.{_≡_, refl, sym, _∙_}
 use native.Mathlib.Omega.{arith}
+use Rattle.facts.specs.Queue.{queueRoom}
 use Rattle.bench.specs.Lists.{ListsDerive}
 use Rattle.bench.proofs.Grouped.{lists-derive}
 use Rattle.bench.proofs.derivation.make_again.Statement.{statement}
@@ -10,7 +11,7 @@ use Rattle.bench.proofs.derivation.make_again.Tie as tie
 
 abbrev Inv-loop : tie.InvT-loop
 Inv-loop _ n cells lefts rights subjects features children _ _ _ _ _ _ _ t _ _ _ _ queue _ =
-    (length t ≡ n * n) × (length queue ≡ 33024) × (ListsDerive n cells lefts rights subjects features children t)
+    (length t ≡ n * n) × (length queue ≡ queueRoom) × (ListsDerive n cells lefts rights subjects features children t)
 
 abbrev μ-loop : tie.MeasureT-loop
 μ-loop _ _ _ _ _ _ _ _ times _ _ _ _ _ _ _ _ _ _ _ _ k =

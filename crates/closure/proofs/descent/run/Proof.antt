@@ -2,7 +2,7 @@
 use Prim.Native.Nat.{_-_}
 use mathlib.Core.Path.{refl, sym, _∙_}
 use native.Mathlib.Omega.{arith}
-use Rattle.facts.specs.Queue.{state}
+use Rattle.facts.specs.Queue.{state, queueRoom}
 use Rattle.selections.specs.Groups.{Grouped}
 use Rattle.closure.proofs.Runs.{tail-bound, Halfway, halfway-start, halfway-ready, halfway-visit, halfway-next}
 use Rattle.closure.proofs.Runs.{halfway-end}
@@ -14,7 +14,7 @@ Inv-loop t₀ n starts ends features children queue₀ tail next₀ head₀ t qu
     Halfway n (Grouped starts ends features children) (state t₀ queue₀ tail) (state t queue next) head
 
 abbrev μ-loop : tie.MeasureT-loop
-μ-loop t₀ n starts ends features children queue₀ tail next₀ head₀ t queue next head = 33024 - head
+μ-loop t₀ n starts ends features children queue₀ tail next₀ head₀ t queue next head = queueRoom - head
 
 loop-holds : tie.Need-loop-holds Inv-loop μ-loop
 loop-holds c = halfway-start (c .before .pre)
