@@ -1,5 +1,4 @@
 -- `closure::derivation::derive` meets its contract: from no facts to each variable's own, the stated ones, and all.
-use borrow.Author.Needs.{needs}
 use lib.ListN.{replicate}
 use mathlib.Core.Path.{ap, _∙_}
 use Rattle.closure.proofs.Derivations.{zeros-ready, pairs-next, run-next, derived-all}
@@ -7,7 +6,7 @@ use Rattle.closure.proofs.derivation.derive.Statement.{statement}
 use Rattle.closure.proofs.derivation.derive.Tie as tie
 
 clear-requires : tie.Need-clear-requires
-clear-requires c κs = search needs
+clear-requires c κs = tt
 
 insert-reflexive-requires : tie.Need-insert-reflexive-requires
 insert-reflexive-requires c κs =
@@ -39,7 +38,12 @@ run-requires c κs =
     (at-insert-pairs .insert-pairs .ensures)
 
 same-length : tie.Need-same-length
-same-length c = search needs
+same-length c =
+    let at-t4 = c .before in
+    let at-t3 = at-t4 .before .before .before .before .before in
+    let at-t2 = at-t3 .before .before .before .before .before in
+    let at-t = at-t2 .before .before .before .before .before in
+    at-t4 .t4 .given ∙ at-t3 .t3 .given ∙ at-t2 .t2 .given ∙ at-t .t .given
 
 returns : tie.Need-returns
 returns c =

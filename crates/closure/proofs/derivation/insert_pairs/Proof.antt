@@ -1,5 +1,4 @@
 -- `closure::derivation::insert_pairs` meets its contract: with each turn one more stated pair is inserted.
-use borrow.Author.Needs.{needs}
 use Prim.Native.Nat.{_≤_, _-_}
 use lib.ListN.{length, getD}
 use mathlib.Core.Path.{sym, _∙_}
@@ -35,7 +34,7 @@ shared-slice-read-wide c =
     omega (arith, start .pre .pairs .lefts-too, at-loop-test .loop-test .taken)
 
 wide-requires : tie.Need-wide-requires Inv-loop μ-loop
-wide-requires c κs = search needs
+wide-requires c κs = tt
 
 shared-slice-read-wide-2 : tie.Need-shared-slice-read-wide-2 Inv-loop μ-loop
 shared-slice-read-wide-2 c =
@@ -45,7 +44,7 @@ shared-slice-read-wide-2 c =
     omega (arith, start .pre .pairs .rights-too, at-loop-test .loop-test .taken)
 
 wide-requires-2 : tie.Need-wide-requires-2 Inv-loop μ-loop
-wide-requires-2 c κs = search needs
+wide-requires-2 c κs = tt
 
 insert-requires : tie.Need-insert-requires Inv-loop μ-loop
 insert-requires c κs =

@@ -1,5 +1,4 @@
 -- `closure::descent::hand_down` meets its contract: with each turn one more place of the first group is handed down.
-use borrow.Author.Needs.{needs}
 use Prim.Native.Nat.{_-_}
 use lib.ListN.{getD}
 use mathlib.Core.Path.{sym, _∙_}
@@ -59,7 +58,7 @@ element-copy-out-wide c =
     let s = start .pre in omega (arith, at-loop-test .loop-test .taken, s .running .groups .inside _ (s .first))
 
 wide-requires : tie.Need-wide-requires Inv-loop μ-loop
-wide-requires c κs = search needs
+wide-requires c κs = tt
 
 tell-all-requires : tie.Need-tell-all-requires Inv-loop μ-loop
 tell-all-requires c κs =

@@ -22,7 +22,7 @@ element-copy-out-wide : tie.Need-element-copy-out-wide
 element-copy-out-wide c = search needs
 
 wide-requires : tie.Need-wide-requires
-wide-requires c κs = search needs
+wide-requires c κs = tt
 
 look-requires : tie.Need-look-requires
 look-requires c κs =
@@ -31,7 +31,7 @@ look-requires c κs =
     record { few = s .few; size = s .shape .size; row = s .child; column = rw (c .wide .ensures) (s .other) }
 
 lacks-requires : tie.Need-lacks-requires
-lacks-requires c κs = search needs
+lacks-requires c κs = tt
 
 returns-2 : tie.Need-returns-2
 unfolding isNew

@@ -1,5 +1,4 @@
 -- `closure::descent::tell_all` meets its contract: with each turn one more child is told, and places are passed.
-use borrow.Author.Needs.{needs}
 use Prim.Native.Nat.{_-_}
 use lib.ListN.{getD}
 use mathlib.Core.Path.{sym, _∙_}
@@ -44,7 +43,7 @@ element-copy-out-wide c =
     let s = start .pre in omega (arith, at-loop-test .loop-test .taken, s .running .groups .inside _ (s .second))
 
 wide-requires : tie.Need-wide-requires Inv-loop μ-loop
-wide-requires c κs = search needs
+wide-requires c κs = tt
 
 insert-requires : tie.Need-insert-requires Inv-loop μ-loop
 insert-requires c κs =

@@ -1,14 +1,14 @@
 -- `closure::descent::visit` meets its contract: what the cell says, if anything, is handed down.
-use borrow.Author.Needs.{needs}
+use mathlib.Core.Path.{refl}
 use Rattle.closure.proofs.Descending.{visit-cell, visit-hands, visit-none, visit-steps}
 use Rattle.closure.proofs.descent.visit.Statement.{statement}
 use Rattle.closure.proofs.descent.visit.Tie as tie
 
 first-of-requires : tie.Need-first-of-requires
-first-of-requires c κs = search needs
+first-of-requires c κs = tt
 
 second-of-requires : tie.Need-second-of-requires
-second-of-requires c κs = search needs
+second-of-requires c κs = tt
 
 look-requires : tie.Need-look-requires
 look-requires c κs =
@@ -18,7 +18,7 @@ look-requires c κs =
     visit-cell (start .pre) _ _ (at-first-of .first-of .ensures) (at-second-of .second-of .ensures)
 
 same-length : tie.Need-same-length
-same-length c = search needs
+same-length c = refl
 
 returns : tie.Need-returns
 returns c =
@@ -39,7 +39,7 @@ hand-down-requires c κs =
     (at-look .look .ensures)
 
 same-length-2 : tie.Need-same-length-2
-same-length-2 c = search needs
+same-length-2 c = c .before .t .given
 
 returns-2 : tie.Need-returns-2
 returns-2 c =

@@ -1,15 +1,14 @@
 -- `closure::trials::clashes_at` meets its contract: compatible, and then by labels.
-use borrow.Author.Needs.{needs}
 use native.Mathlib.Omega.{arith}
 use Rattle.closure.proofs.Searches.{search-row, search-column, search-cell, entry-open, entry-clear}
 use Rattle.closure.proofs.trials.clashes_at.Statement.{statement}
 use Rattle.closure.proofs.trials.clashes_at.Tie as tie
 
 first-of-requires : tie.Need-first-of-requires
-first-of-requires c κs = search needs
+first-of-requires c κs = tt
 
 second-of-requires : tie.Need-second-of-requires
-second-of-requires c κs = search needs
+second-of-requires c κs = tt
 
 look-requires : tie.Need-look-requires
 look-requires c κs =
@@ -18,7 +17,7 @@ look-requires c κs =
     search-cell (start .pre) _ _ (at-first-of .first-of .ensures) (c .second-of .ensures)
 
 says-compatible-requires : tie.Need-says-compatible-requires
-says-compatible-requires c κs = search needs
+says-compatible-requires c κs = tt
 
 labels-differ-requires : tie.Need-labels-differ-requires
 labels-differ-requires c κs =

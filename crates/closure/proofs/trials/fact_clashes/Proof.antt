@@ -1,5 +1,5 @@
 -- `closure::trials::fact_clashes` meets its contract.
-use borrow.Author.Needs.{needs}
+use mathlib.Core.Path.{_∙_}
 use Rattle.closure.proofs.Trying.{may-search, may-restore, searched-so}
 use Rattle.closure.proofs.trials.fact_clashes.Statement.{statement}
 use Rattle.closure.proofs.trials.fact_clashes.Tie as tie
@@ -21,7 +21,7 @@ restore-requires c κs =
     (start .pre .0 .trying .shape)
 
 same-length : tie.Need-same-length
-same-length c = search needs
+same-length c = c .before .t2 .given ∙ c .before .before .before .before .before .before .before .before .before .t .given
 
 returns : tie.Need-returns
 returns c =

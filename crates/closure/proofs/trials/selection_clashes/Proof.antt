@@ -1,5 +1,5 @@
 -- `closure::trials::selection_clashes` meets its contract.
-use borrow.Author.Needs.{needs}
+use mathlib.Core.Path.{_∙_}
 use native.Mathlib.Omega.{arith}
 use Rattle.closure.proofs.Trying.{may-search, may-restore, searched-so}
 use Rattle.closure.proofs.trials.selection_clashes.Statement.{statement}
@@ -29,7 +29,7 @@ restore-requires c κs =
     (start .pre .0 .trying .shape)
 
 same-length : tie.Need-same-length
-same-length c = search needs
+same-length c = c .before .t2 .given ∙ c .before .before .before .before .before .before .before .before .before .t .given
 
 returns : tie.Need-returns
 returns c =

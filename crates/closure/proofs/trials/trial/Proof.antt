@@ -1,12 +1,11 @@
 -- `closure::trials::trial` meets its contract: where the statements clash, they clash with the question.
-use borrow.Author.Needs.{needs}
 use mathlib.Core.Path.{sym, _∙_}
 use Rattle.closure.proofs.Questions.{clash-stays, all-told, untouched}
 use Rattle.closure.proofs.trials.trial.Statement.{statement}
 use Rattle.closure.proofs.trials.trial.Tie as tie
 
 is-clash-requires : tie.Need-is-clash-requires
-is-clash-requires c κs = search needs
+is-clash-requires c κs = tt
 
 returns : tie.Need-returns
 returns c =
@@ -21,7 +20,7 @@ try-where-labels-differ-requires c κs =
     (start .pre .0, start .pre .1 .1)
 
 same-length : tie.Need-same-length
-same-length c = search needs
+same-length c = c .before .t .given
 
 returns-2 : tie.Need-returns-2
 returns-2 c =

@@ -1,5 +1,5 @@
 -- `closure::trials::try_fact` meets its contract.
-use borrow.Author.Needs.{needs}
+use mathlib.Core.Path.{_∙_}
 use Rattle.closure.proofs.Trying.{fact-insert, fact-run, fact-tried}
 use Rattle.closure.proofs.trials.try_fact.Statement.{statement}
 use Rattle.closure.proofs.trials.try_fact.Tie as tie
@@ -14,7 +14,7 @@ run-requires c κs =
     fact-run (start .pre) (at-insert .insert .ensures)
 
 same-length : tie.Need-same-length
-same-length c = search needs
+same-length c = c .before .t2 .given ∙ c .before .before .before .before .before .before .t .given
 
 returns : tie.Need-returns
 returns c =

@@ -11,10 +11,10 @@ enum-known-q : tie.Need-enum-known-q
 enum-known-q c = search needs
 
 wide-requires : tie.Need-wide-requires
-wide-requires c κs = search needs
+wide-requires c κs = tt
 
 wide-requires-2 : tie.Need-wide-requires-2
-wide-requires-2 c κs = search needs
+wide-requires-2 c κs = tt
 
 fact-clashes-requires : tie.Need-fact-clashes-requires
 fact-clashes-requires c κs =
@@ -31,10 +31,10 @@ enum-known-q-2 : tie.Need-enum-known-q-2
 enum-known-q-2 c = search needs
 
 wide-requires-3 : tie.Need-wide-requires-3
-wide-requires-3 c κs = search needs
+wide-requires-3 c κs = tt
 
 wide-requires-4 : tie.Need-wide-requires-4
-wide-requires-4 c κs = search needs
+wide-requires-4 c κs = tt
 
 fact-clashes-requires-2 : tie.Need-fact-clashes-requires-2
 fact-clashes-requires-2 c κs =
@@ -52,7 +52,7 @@ enum-known-q-3 : tie.Need-enum-known-q-3
 enum-known-q-3 c = search needs
 
 wide-requires-5 : tie.Need-wide-requires-5
-wide-requires-5 c κs = search needs
+wide-requires-5 c κs = tt
 
 selection-clashes-requires : tie.Need-selection-clashes-requires
 selection-clashes-requires c κs =
@@ -65,7 +65,7 @@ enum-known-q-4 : tie.Need-enum-known-q-4
 enum-known-q-4 c = search needs
 
 wide-requires-6 : tie.Need-wide-requires-6
-wide-requires-6 c κs = search needs
+wide-requires-6 c κs = tt
 
 label-clashes-requires : tie.Need-label-clashes-requires
 label-clashes-requires c κs =
@@ -74,7 +74,7 @@ label-clashes-requires c κs =
     ask-label (start .pre) _ (at-q4 .q4 .given .1) (c .wide6 .ensures)
 
 same-length : tie.Need-same-length
-same-length c = search needs
+same-length c = c .before .t .given
 
 returns : tie.Need-returns
 returns c =
@@ -94,7 +94,7 @@ returns c =
     )
 
 same-length-2 : tie.Need-same-length-2
-same-length-2 c = search needs
+same-length-2 c = c .before .t2 .given
 
 returns-2 : tie.Need-returns-2
 returns-2 c =
@@ -116,7 +116,7 @@ returns-2 c =
     )
 
 same-length-3 : tie.Need-same-length-3
-same-length-3 c = search needs
+same-length-3 c = c .before .t3 .given
 
 returns-3 : tie.Need-returns-3
 returns-3 c =

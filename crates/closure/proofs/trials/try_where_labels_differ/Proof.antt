@@ -1,5 +1,4 @@
 -- `closure::trials::try_where_labels_differ` meets its contract.
-use borrow.Author.Needs.{needs}
 use mathlib.Core.Path.{sym, ap, _∙_}
 use Rattle.answers.specs.Spreads.{canClash}
 use Rattle.closure.proofs.Questions.{skip-told, untouched}
@@ -7,7 +6,7 @@ use Rattle.closure.proofs.trials.try_where_labels_differ.Statement.{sta
 use Rattle.closure.proofs.trials.try_where_labels_differ.Tie as tie
 
 can-clash-requires : tie.Need-can-clash-requires
-can-clash-requires c κs = search needs
+can-clash-requires c κs = tt
 
 try-statement-requires : tie.Need-try-statement-requires
 try-statement-requires c κs =
@@ -15,7 +14,7 @@ try-statement-requires c κs =
     start .pre .0
 
 same-length : tie.Need-same-length
-same-length c = search needs
+same-length c = c .before .t .given
 
 returns : tie.Need-returns
 returns c = c .before .before .try-statement .ensures
