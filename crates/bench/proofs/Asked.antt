@@ -6,10 +6,10 @@ use mathlib.Core.Bool.{Bool, true, false}
 use mathlib.Core.List.{List, [], _∷_, _++_}
 use mathlib.Core.Path.{_≡_, refl, ap, _∙_}
 use native.Mathlib.Omega.{arith}
+use Rattle.fields.specs.Tests.{same, pick}
+use Rattle.fields.proofs.Choice.{is-same, not-same, chosen, passed}
 use Rattle.sheet.specs.declared.items.Statement.{Statement}
 use Rattle.sheet.specs.Statements.{Names}
-use Rattle.sheet.specs.Tests.{same, pick}
-use Rattle.sheet.proofs.Choice.{is-same, not-same, chosen, passed}
 use Rattle.rules.specs.Stated.{ordering, compatibility, selection, labelling}
 use Rattle.rules.specs.Clashes.{clashes}
 use Rattle.rules.proofs.Logic.{last-or-before}

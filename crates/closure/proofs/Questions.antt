@@ -5,12 +5,12 @@ use mathlib.Core.Bool.{Bool, true, false}
 use mathlib.Core.List.{List, [], _∷_, _++_}
 use mathlib.Core.Path.{_≡_, refl, sym, ap, _∙_}
 use native.Mathlib.Omega.{arith}
+use Rattle.fields.specs.declared.numbers.Feature.{Feature}
+use Rattle.fields.specs.declared.numbers.Label.{Label}
+use Rattle.fields.specs.declared.numbers.Variable.{Variable}
+use Rattle.fields.specs.Tests.{less, same}
 use Rattle.sheet.specs.declared.items.Statement.{Statement}
-use Rattle.sheet.specs.declared.numbers.Feature.{Feature}
-use Rattle.sheet.specs.declared.numbers.Label.{Label}
-use Rattle.sheet.specs.declared.numbers.Variable.{Variable}
 use Rattle.sheet.specs.Statements.{Names}
-use Rattle.sheet.specs.Tests.{less, same}
 use Rattle.rules.specs.Connectives.{_or_}
 use Rattle.rules.specs.Stated.{selection, labelling, Stated}
 use Rattle.rules.specs.Facts.{Kind, ordered, compatible, fact}

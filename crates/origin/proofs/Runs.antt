@@ -6,18 +6,18 @@ use mathlib.Core.Path.{_≡_, refl, ap, _∙_}
 use lib.Dec.{eqb}
 use lib.ListN.{take, drop}
 use native.Mathlib.Omega.{arith}
+use Rattle.fields.specs.declared.refusals.Place.{Place}
+use Rattle.fields.specs.declared.numbers.Cursor.{Cursor}
+use Rattle.fields.specs.declared.refusals.Refusal.{Refusal}
+use Rattle.fields.specs.Refusals.{remain, trailingRefusal}
+use Rattle.fields.specs.Tests.{pick, less}
+use Rattle.fields.proofs.Chains.{told}
 use Rattle.sheet.specs.declared.items.EndRead.{EndRead}
 use Rattle.sheet.specs.declared.items.ItemRead.{ItemRead}
-use Rattle.sheet.specs.declared.items.Place.{Place}
-use Rattle.sheet.specs.declared.numbers.Cursor.{Cursor}
-use Rattle.sheet.specs.declared.refusals.Refusal.{Refusal}
 use Rattle.sheet.specs.Items as Read
 use Rattle.sheet.specs.Items.{thenItem, thenEnd, itemsEnd, itemsOf}
-use Rattle.sheet.specs.Refusals.{remain, trailingRefusal}
 use Rattle.sheet.specs.Sheets.{allStatements}
 use Rattle.sheet.specs.Statements.{statementsOf, questionOf}
-use Rattle.sheet.specs.Tests.{pick, less}
-use Rattle.sheet.proofs.Chains.{told}
 use Rattle.sheet.proofs.Lawful.{item-spans}
 use Rattle.sheet.proofs.Named.{question-alone}
 use Rattle.sheet.proofs.Runs.{run-next}

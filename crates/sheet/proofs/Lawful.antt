@@ -6,16 +6,18 @@ use mathlib.Core.Path.{_≡_}
 use borrow.Author.Tests.{not-false}
 use lib.ListN.{length}
 use native.Mathlib.Omega.{arith}
+use Rattle.fields.specs.declared.refusals.Place.{Place}
+use Rattle.fields.specs.declared.numbers.Cursor.{Cursor}
+use Rattle.fields.specs.Refusals.{badItemMap, severalBits}
+use Rattle.fields.specs.Tests.{less, same, pick, has}
+use Rattle.fields.proofs.Chains.{Of, after-byte, after-variable}
+use Rattle.fields.proofs.Choice.{same-true, or-right, or-cases, pick-most}
+use Rattle.fields.proofs.Extents.{judged-spans, variable-spans}
 use Rattle.sheet.specs.declared.items.Item.{Item}
 use Rattle.sheet.specs.declared.items.ItemRead.{ItemRead}
-use Rattle.sheet.specs.declared.items.Place.{Place}
-use Rattle.sheet.specs.declared.numbers.Cursor.{Cursor}
 use Rattle.sheet.specs.Items.{mapField, itemAt, fieldsWidth, width, most}
-use Rattle.sheet.specs.Refusals.{badItemMap, severalBits}
-use Rattle.sheet.specs.Tests.{less, same, pick, has}
-use Rattle.sheet.proofs.Chains.{Of, after-byte, after-variable, as-item}
-use Rattle.sheet.proofs.Choice.{same-true, or-right, or-cases, pick-most}
-use Rattle.sheet.proofs.Extents.{judged-spans, variable-spans, fields-span}
+use Rattle.sheet.proofs.Chains.{as-item}
+use Rattle.sheet.proofs.Filled.{fields-span}
 
 -- a lawful question map is one bit
 pub one-bit : {C : Type 0} (map : ℕ) → badItemMap Place.Question map ≡ false

@@ -1,11 +1,8 @@
--- Laws that belong to no one function, from tests up to the whole sheet.
-pub mod Choice
-pub mod Judged
+-- Laws that belong to no one function, from items up to the whole sheet.
 pub mod Chains
-pub mod Extents
+pub mod Filled
 pub mod Lawful
 pub mod Runs
-pub mod Heads
 pub mod Accepted
 pub mod Named
 pub mod Longest

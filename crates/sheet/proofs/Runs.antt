@@ -6,14 +6,15 @@ use lib.ListN.{length}
 use native.Mathlib.Nat.{suc-mul}
 use native.Mathlib.Numerals.{sub-one}
 use native.Mathlib.Omega.{arith}
+use Rattle.fields.specs.declared.refusals.Place.{Place}
+use Rattle.fields.specs.declared.numbers.Cursor.{Cursor}
+use Rattle.fields.specs.declared.refusals.Refusal.{Refusal}
+use Rattle.fields.proofs.Chains.{Of}
 use Rattle.sheet.specs.declared.items.EndRead.{EndRead}
 use Rattle.sheet.specs.declared.items.Item.{Item}
 use Rattle.sheet.specs.declared.items.ItemRead.{ItemRead}
-use Rattle.sheet.specs.declared.items.Place.{Place}
-use Rattle.sheet.specs.declared.numbers.Cursor.{Cursor}
-use Rattle.sheet.specs.declared.refusals.Refusal.{Refusal}
 use Rattle.sheet.specs.Items.{itemAt, itemsEnd, itemsOf, most}
-use Rattle.sheet.proofs.Chains.{Of, after-item, as-end}
+use Rattle.sheet.proofs.Chains.{after-item, as-end}
 use Rattle.sheet.proofs.Lawful.{item-spans, width-most}
 
 module _ (place : Place) (s : List ℕ) (n : ℕ) (c : Cursor) where

@@ -1,20 +1,20 @@
 -- Records and questions: one definition of an item, told its place.
 use Prim.Native.Nat.{ℕ, zero, suc, _+_}
 use mathlib.Core.List.{List, [], _∷_}
-use Rattle.sheet.specs.declared.fields.ByteRead.{ByteRead}
+use Rattle.fields.specs.declared.fields.ByteRead.{ByteRead}
+use Rattle.fields.specs.declared.refusals.Place.{Place}
+use Rattle.fields.specs.declared.numbers.Cursor.{Cursor}
+use Rattle.fields.specs.declared.numbers.Variable.{Variable}
+use Rattle.fields.specs.declared.refusals.Refusal.{Refusal}
+use Rattle.fields.specs.Fields.{feature, label, thenByte, thenWord, thenVariable}
+use Rattle.fields.specs.Fields.{judged, byteField, variableField, wordIf, variableIf}
+use Rattle.fields.specs.Refusals.{badItemMap, itemMapRefusal}
+use Rattle.fields.specs.Tests.{pick, has}
 use Rattle.sheet.specs.declared.items.EndRead.{EndRead}
 use Rattle.sheet.specs.declared.items.Item.{Item}
 use Rattle.sheet.specs.declared.items.ItemRead.{ItemRead}
-use Rattle.sheet.specs.declared.items.Place.{Place}
 use Rattle.sheet.specs.declared.items.QuestionRead.{QuestionRead}
-use Rattle.sheet.specs.declared.numbers.Cursor.{Cursor}
-use Rattle.sheet.specs.declared.numbers.Variable.{Variable}
-use Rattle.sheet.specs.declared.refusals.Refusal.{Refusal}
-use Rattle.sheet.specs.Fields.{feature, label, thenByte, thenWord, thenVariable}
-use Rattle.sheet.specs.Fields.{judged, byteField, variableField, wordIf, variableIf}
-use Rattle.sheet.specs.Refusals.{badItemMap, itemMapRefusal}
 use Rattle.sheet.specs.Statements.{questionOf}
-use Rattle.sheet.specs.Tests.{pick, has}
 
 abbrev pub item : ℕ → Variable → Variable → Variable → ℕ → Variable → ℕ → Item
 item map i j partner f child a =

@@ -1,20 +1,21 @@
 // Records and questions: one reader of an item, told its place.
-use crate::fields::ByteRead;
-use crate::fields::VariableRead;
-use crate::fields::WordRead;
-use crate::fields::has_bit;
-use crate::fields::read_byte;
-use crate::fields::read_variable;
-use crate::fields::read_variable_if;
-use crate::fields::read_word_if;
-use crate::numbers::Cursor;
-use crate::numbers::Feature;
-use crate::numbers::Label;
-use crate::numbers::Variable;
-use crate::refusals::Fault;
-use crate::refusals::Refusal;
+use fields::ByteRead;
+use fields::Cursor;
+use fields::Fault;
+use fields::Feature;
+use fields::Label;
+use fields::Place;
+use fields::Refusal;
+use fields::Variable;
+use fields::VariableRead;
+use fields::WordRead;
+use fields::has_bit;
+use fields::read_byte;
+use fields::read_variable;
+use fields::read_variable_if;
+use fields::read_word_if;
 ghost use mathlib.Core.Path.{_≡_};
-ghost use Rattle.sheet.specs.Refusals.{definedBits, severalBits, badItemMap};
+ghost use Rattle.fields.specs.Refusals.{definedBits, severalBits, badItemMap};
 ghost use Rattle.sheet.specs.Items.{mapField, fieldsAt, itemAt, questionAt, itemsEnd};
 ghost use Rattle.sheet.specs.Statements.{questionOf};
 
@@ -28,12 +29,6 @@ pub enum Statement {
     Selection(Variable, Feature, Variable),
     // a(i)
     Labelling(Variable, Label),
-}
-
-// Where an item stands: it decides which maps are lawful.
-pub enum Place {
-    Record,
-    Question,
 }
 
 // The fields of a record or question. A field whose bit is missing is 0.

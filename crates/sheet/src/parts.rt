@@ -1,12 +1,12 @@
 // A record's own bytes, as a part of the caller's sheet.
-use crate::headers::Header;
 use crate::items::EndRead;
 use crate::items::ItemRead;
-use crate::items::Place;
 use crate::items::items_end;
 use crate::items::read_record;
 use crate::whole::SheetRead;
 use crate::whole::read_sheet;
+use fields::Header;
+use fields::Place;
 ghost use mathlib.Core.Path.{_≡_};
 ghost use Rattle.sheet.specs.Parts.{partAt, recordBytes};
 

@@ -1,8 +1,8 @@
 -- The maps of one bit are told apart one by one.
-use Rattle.sheet.specs.Tests.{same}
+use Rattle.fields.specs.Tests.{same}
 use mathlib.Core.Path.{sym}
-use Rattle.sheet.proofs.Choice.{is-same, not-same}
-use Rattle.sheet.specs.Refusals.{severalBits}
+use Rattle.fields.proofs.Choice.{is-same, not-same}
+use Rattle.fields.specs.Refusals.{severalBits}
 use Rattle.sheet.proofs.items.has_several_bits.Statement.{statement}
 use Rattle.sheet.proofs.items.has_several_bits.Tie as tie
 

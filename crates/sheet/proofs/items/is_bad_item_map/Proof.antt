@@ -1,7 +1,7 @@
 -- Each answer is a part of the disjunction, the last by place.
 use mathlib.Core.Path.{refl, sym}
-use Rattle.sheet.proofs.Choice.{is-same, not-same, is-less, not-less}
-use Rattle.sheet.specs.Refusals.{badItemMap}
+use Rattle.fields.proofs.Choice.{is-same, not-same, is-less, not-less}
+use Rattle.fields.specs.Refusals.{badItemMap}
 use borrow.Author.Needs.{needs}
 use Rattle.sheet.proofs.items.is_bad_item_map.Statement.{statement}
 use Rattle.sheet.proofs.items.is_bad_item_map.Tie as tie

@@ -1,6 +1,6 @@
 -- The bits are asked in their order.
 use mathlib.Core.Path.{refl}
-use Rattle.sheet.proofs.Choice.{chosen, passed}
+use Rattle.fields.proofs.Choice.{chosen, passed}
 use Rattle.sheet.specs.Statements.{questionOf}
 use borrow.Author.Needs.{needs}
 use Rattle.sheet.proofs.items.question_of.Statement.{statement}

@@ -1,7 +1,7 @@
 -- A byte that is read is judged.
 use mathlib.Core.Path.{sym, _∙_}
-use Rattle.sheet.proofs.Judged.{missing-byte, bad-byte, good-byte}
-use Rattle.sheet.specs.Refusals.{badItemMap, itemMapRefusal}
+use Rattle.fields.proofs.Judged.{missing-byte, bad-byte, good-byte}
+use Rattle.fields.specs.Refusals.{badItemMap, itemMapRefusal}
 use Rattle.sheet.specs.Items.{mapField}
 use borrow.Author.Needs.{needs}
 use Rattle.sheet.proofs.items.read_map.Statement.{statement}
