@@ -5,13 +5,10 @@ use mathlib.Core.Path.{_≡_, refl, subst}
 use Rattle.fields.specs.declared.fields.ByteRead.{ByteRead}
 use Rattle.fields.specs.declared.fields.VariableRead.{VariableRead}
 use Rattle.fields.specs.declared.fields.WordRead.{WordRead}
-use Rattle.fields.specs.declared.headers.Header.{Header}
-use Rattle.fields.specs.declared.headers.HeaderRead.{HeaderRead}
 use Rattle.fields.specs.declared.numbers.Cursor.{Cursor}
 use Rattle.fields.specs.declared.numbers.Variable.{Variable}
 use Rattle.fields.specs.declared.refusals.Refusal.{Refusal}
 use Rattle.fields.specs.Fields.{byteIs, wordIs, thenByte, thenWord, thenVariable}
-use Rattle.fields.specs.Headers.{thenHeader}
 use Rattle.fields.specs.Tests.{pick}
 
 -- a property of an answer, shut, so that a chain is found in it
@@ -51,9 +48,3 @@ module _ {A : Type 0} {P : A → Type 0} {refused : Refusal → A} where
       → Of P (thenVariable r refused next)
   after-variable {r = (VariableRead.Is f)} h stop go = go (f .value) (f .next) (h .holds)
   after-variable {r = (VariableRead.Refused q)} h stop go = stop q (h .holds)
-
-  pub after-header : {Q : HeaderRead → Type 0} {r : HeaderRead} {next : Header → A} → Of Q r
-      → ((q : Refusal) → Q (HeaderRead.Refused q) → Of P (refused q))
-      → ((x : Header) → Q (HeaderRead.Is x) → Of P (next x)) → Of P (thenHeader r refused next)
-  after-header {r = (HeaderRead.Is x)} h stop go = go x (h .holds)
-  after-header {r = (HeaderRead.Refused q)} h stop go = stop q (h .holds)

@@ -1,5 +1,4 @@
--- Fields and the header of a sheet, from tests on bytes on.
+-- Fields of a sheet, from tests on bytes on.
 pub mod Tests
 pub mod Refusals
 pub mod Fields
-pub mod Headers

@@ -1,6 +1,5 @@
-// Fields and the header of a sheet, and the refusals of a malformed one by number and offset.
+// Fields of a sheet, and the refusals of a malformed one by number and offset.
 mod fields;
-mod headers;
 mod numbers;
 mod refusals;
 
@@ -14,10 +13,8 @@ pub use fields::has_bit;
 pub use fields::read_byte;
 pub use fields::read_variable;
 pub use fields::read_variable_if;
+pub use fields::read_word;
 pub use fields::read_word_if;
-pub use headers::Header;
-pub use headers::HeaderRead;
-pub use headers::read_header;
 pub use numbers::Cursor;
 pub use numbers::Feature;
 pub use numbers::Label;

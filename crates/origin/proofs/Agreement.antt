@@ -6,18 +6,18 @@ use mathlib.Core.List.{List, []}
 use mathlib.Core.Path.{_≡_, refl, ap, ap₂, _∙_}
 use borrow.Author.Tests.{ltb-true}
 use lib.Dec.{eqb, ltb, leb}
-use Rattle.fields.specs.declared.headers.Header as H
-use Rattle.fields.specs.declared.headers.HeaderRead.{HeaderRead}
 use Rattle.fields.specs.declared.refusals.Place.{Place}
 use Rattle.fields.specs.declared.numbers.Cursor.{Cursor}
 use Rattle.fields.specs.declared.refusals.Refusal.{Refusal}
 use Rattle.fields.specs.Fields.{cursor, thenWord}
-use Rattle.fields.specs.Headers as Heads
-use Rattle.fields.specs.Headers.{thenHeader, headerOf, headerMap, variableCount, countIf}
 use Rattle.fields.specs.Refusals.{badHeaderMap, badVariableCount, remain, trailingRefusal}
 use Rattle.fields.specs.Tests.{less, same, has}
 use Rattle.fields.specs.Tests as Tests
 use Rattle.fields.proofs.Chains.{told}
+use Rattle.headers.specs.declared.headers.Header as H
+use Rattle.headers.specs.declared.headers.HeaderRead.{HeaderRead}
+use Rattle.headers.specs.Headers as Heads
+use Rattle.headers.specs.Headers.{thenHeader, headerOf, headerMap, variableCount, countIf}
 use Rattle.sheet.specs.declared.items.EndRead.{EndRead}
 use Rattle.sheet.specs.declared.whole.SheetRead.{SheetRead}
 use Rattle.sheet.specs.Items.{thenEnd, itemsEnd}

@@ -14,9 +14,9 @@ use Rattle.fields.specs.declared.numbers.Variable.{Variable}
 use Rattle.fields.specs.declared.refusals.Refusal.{Refusal}
 use Rattle.fields.specs.Fields.{cursor, variable, variableIs, wordIs, word, judged, byteField, wordField, variableField}
 use Rattle.fields.specs.Fields.{thenByte, thenWord, thenVariable}
-use Rattle.fields.specs.Headers.{countField, countIf}
 use Rattle.fields.specs.Refusals.{cut, ends, badCount, countRefusal, badVariable, variableRefusal}
 use Rattle.fields.specs.Tests.{pick, less}
+use Rattle.headers.specs.Headers.{countField, countIf}
 use Rattle.origin.specs.Sheets.{byteAt, wordAt, cut as is-cut}
 
 -- x is what f makes of the answer; shut, so that both are found in it

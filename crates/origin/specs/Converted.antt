@@ -1,10 +1,10 @@
 -- What the crate sheet answers, in the terms of the first statement of the format.
 use mathlib.Core.Bool.{Bool, true, false}
 use mathlib.Core.List.{[], map}
-use Rattle.fields.specs.declared.headers.HeaderRead.{HeaderRead}
 use Rattle.fields.specs.declared.refusals.Place.{Place}
 use Rattle.fields.specs.declared.refusals.Refusal.{Refusal}
 use Rattle.fields.specs.Refusals.{numberOf}
+use Rattle.headers.specs.declared.headers.HeaderRead.{HeaderRead}
 use Rattle.sheet.specs.declared.items.ItemRead.{ItemRead}
 use Rattle.sheet.specs.declared.items.Statement as S
 use Rattle.sheet.specs.declared.whole.SheetRead.{SheetRead}

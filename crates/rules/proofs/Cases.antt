@@ -3,7 +3,7 @@ use mathlib.Core.Path.{refl}
 use Rattle.fields.specs.Tests as Tests
 use Rattle.fields.specs.Refusals as Refusals
 use Rattle.fields.specs.Fields as Fields
-use Rattle.fields.specs.Headers as Headers
+use Rattle.headers.specs.Headers as Headers
 use Rattle.sheet.specs.Items as Items
 use Rattle.sheet.specs.Statements as Statements
 use Rattle.sheet.specs.Sheets as Sheets

@@ -5,15 +5,16 @@ use mathlib.Core.List.{List}
 use mathlib.Core.Path.{_≡_}
 use lib.ListN.{length}
 use native.Mathlib.Omega.{arith}
-use Rattle.fields.specs.declared.headers.Header.{Header}
-use Rattle.fields.specs.declared.headers.HeaderRead.{HeaderRead}
 use Rattle.fields.specs.declared.refusals.Place.{Place}
 use Rattle.fields.specs.declared.numbers.Cursor.{Cursor}
-use Rattle.fields.specs.Headers.{headerOf}
 use Rattle.fields.specs.Refusals.{remain}
-use Rattle.fields.proofs.Chains.{Of, known, either, after-header}
+use Rattle.fields.proofs.Chains.{Of, known, either}
 use Rattle.fields.proofs.Choice.{less-false}
-use Rattle.fields.proofs.Heads.{Heads, header-spans}
+use Rattle.headers.specs.declared.headers.Header.{Header}
+use Rattle.headers.specs.declared.headers.HeaderRead.{HeaderRead}
+use Rattle.headers.specs.Headers.{headerOf}
+use Rattle.headers.proofs.Heads.{after-header}
+use Rattle.headers.proofs.Heads.{Heads, header-spans}
 use Rattle.sheet.specs.declared.items.EndRead.{EndRead}
 use Rattle.sheet.specs.declared.whole.SheetRead.{SheetRead}
 use Rattle.sheet.specs.Items.{itemsEnd}

@@ -8,17 +8,17 @@ use native.Mathlib.Nat.{suc-mul}
 use native.Mathlib.Omega.{arith}
 use Rattle.fields.specs.declared.fields.VariableRead.{VariableRead}
 use Rattle.fields.specs.declared.fields.WordRead.{WordRead}
-use Rattle.fields.specs.declared.headers.HeaderRead.{HeaderRead}
 use Rattle.fields.specs.declared.refusals.Place.{Place}
 use Rattle.fields.specs.declared.numbers.Cursor.{Cursor}
 use Rattle.fields.specs.declared.numbers.Variable.{Variable}
 use Rattle.fields.specs.Fields.{cursor, word, byteField, wordField, variableField, wordIf, variableIf}
-use Rattle.fields.specs.Headers.{header, headerMap, variableCount, countField, countIf, headerOf}
 use Rattle.fields.specs.Refusals.{ends, badHeaderMap, badVariableCount, badCount, badItemMap, severalBits}
 use Rattle.fields.specs.Refusals.{badVariable, remain}
 use Rattle.fields.specs.Tests.{less, same, pick, has}
 use Rattle.fields.proofs.Chains.{Of, told, either, after-word, after-variable}
 use Rattle.fields.proofs.Choice.{chosen, passed, is-less, not-less, is-same, less-true}
+use Rattle.headers.specs.declared.headers.HeaderRead.{HeaderRead}
+use Rattle.headers.specs.Headers.{header, headerMap, variableCount, countField, countIf, headerOf}
 use Rattle.sheet.specs.declared.items.EndRead.{EndRead}
 use Rattle.sheet.specs.declared.items.Item.{Item}
 use Rattle.sheet.specs.declared.items.ItemRead.{ItemRead}

@@ -2,9 +2,9 @@
 use Prim.Native.Nat.{ℕ, _-_}
 use mathlib.Core.List.{List, []}
 use lib.ListN.{take, drop}
-use Rattle.fields.specs.declared.headers.Header.{Header}
 use Rattle.fields.specs.declared.refusals.Place.{Place}
 use Rattle.fields.specs.Tests.{less, pick}
+use Rattle.headers.specs.declared.headers.Header.{Header}
 use Rattle.sheet.specs.Items.{thenItem, thenEnd, itemAt, itemsEnd}
 use Rattle.sheet.specs.Sheets.{thenSheet, readSheet}
 

@@ -1,13 +1,13 @@
 -- The whole sheet, and what it states and asks.
 use Prim.Native.Nat.{ℕ}
 use mathlib.Core.List.{List, [], _∷_, _++_, map}
-use Rattle.fields.specs.declared.headers.Header.{Header}
 use Rattle.fields.specs.declared.refusals.Place.{Place}
 use Rattle.fields.specs.declared.numbers.Cursor.{Cursor}
 use Rattle.fields.specs.declared.refusals.Refusal.{Refusal}
-use Rattle.fields.specs.Headers.{thenHeader, headerOf}
 use Rattle.fields.specs.Refusals.{remain, trailingRefusal}
 use Rattle.fields.specs.Tests.{pick}
+use Rattle.headers.specs.declared.headers.Header.{Header}
+use Rattle.headers.specs.Headers.{thenHeader, headerOf}
 use Rattle.sheet.specs.declared.items.Item.{Item}
 use Rattle.sheet.specs.declared.items.Statement.{Statement}
 use Rattle.sheet.specs.declared.whole.SheetRead.{SheetRead}

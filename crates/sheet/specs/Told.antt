@@ -1,8 +1,8 @@
 -- What each answer tells in numbers: a refusal its number and its offset, anything else 0 and 0.
 use Prim.Native.Nat.{ℕ}
-use Rattle.fields.specs.declared.headers.HeaderRead.{HeaderRead}
 use Rattle.fields.specs.declared.refusals.Refusal.{Refusal}
 use Rattle.fields.specs.Refusals.{numberOf}
+use Rattle.headers.specs.declared.headers.HeaderRead.{HeaderRead}
 use Rattle.sheet.specs.declared.items.EndRead.{EndRead}
 use Rattle.sheet.specs.declared.items.ItemRead.{ItemRead}
 use Rattle.sheet.specs.declared.items.QuestionRead.{QuestionRead}

@@ -5,8 +5,8 @@ use crate::items::items_end;
 use crate::items::read_record;
 use crate::whole::SheetRead;
 use crate::whole::read_sheet;
-use fields::Header;
 use fields::Place;
+use headers::Header;
 ghost use mathlib.Core.Path.{_≡_};
 ghost use Rattle.sheet.specs.Parts.{partAt, recordBytes};
 

@@ -3,11 +3,11 @@ use crate::items::EndRead;
 use crate::items::items_end;
 use fields::Cursor;
 use fields::Fault;
-use fields::Header;
-use fields::HeaderRead;
 use fields::Place;
 use fields::Refusal;
-use fields::read_header;
+use headers::Header;
+use headers::HeaderRead;
+use headers::read_header;
 ghost use mathlib.Core.Path.{_≡_};
 ghost use Rattle.sheet.specs.Sheets.{bodyOf, readSheet};
 

@@ -4,8 +4,8 @@ use mathlib.Core.Bool.{true, false}
 use mathlib.Core.List.{List}
 use mathlib.Core.Logic.{_↔_}
 use mathlib.Core.Path.{_≡_}
-use Rattle.fields.specs.declared.headers.Header.{Header}
 use Rattle.fields.specs.declared.numbers.Cursor.{Cursor}
+use Rattle.headers.specs.declared.headers.Header.{Header}
 use Rattle.sheet.specs.declared.items.Statement.{Statement}
 use Rattle.sheet.specs.declared.whole.SheetRead.{SheetRead}
 use Rattle.sheet.specs.Sheets.{Sheet, readSheet, sheetAt}

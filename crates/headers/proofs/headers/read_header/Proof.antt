@@ -1,9 +1,9 @@
 -- Each answer is the chain of fields so far.
 use mathlib.Core.Path.{refl}
-use Rattle.fields.specs.Headers.{headerOf}
+use Rattle.headers.specs.Headers.{headerOf}
 use borrow.Author.Needs.{needs}
-use Rattle.fields.proofs.headers.read_header.Statement.{statement}
-use Rattle.fields.proofs.headers.read_header.Tie as tie
+use Rattle.headers.proofs.headers.read_header.Statement.{statement}
+use Rattle.headers.proofs.headers.read_header.Tie as tie
 
 read-header-map-requires : tie.Need-read-header-map-requires
 read-header-map-requires c κs = search needs

@@ -1,11 +1,11 @@
 -- A byte that is read is judged.
 use mathlib.Core.Path.{sym, _∙_}
 use Rattle.fields.proofs.Judged.{missing-byte, bad-byte, good-byte}
 use Rattle.fields.specs.Refusals.{badHeaderMap, headerMapRefusal}
-use Rattle.fields.specs.Headers.{headerMap}
+use Rattle.headers.specs.Headers.{headerMap}
 use borrow.Author.Needs.{needs}
-use Rattle.fields.proofs.headers.read_header_map.Statement.{statement}
-use Rattle.fields.proofs.headers.read_header_map.Tie as tie
+use Rattle.headers.proofs.headers.read_header_map.Statement.{statement}
+use Rattle.headers.proofs.headers.read_header_map.Tie as tie
 
 read-byte-requires : tie.Need-read-byte-requires
 read-byte-requires c κs = search needs

@@ -1,10 +1,10 @@
 -- Each answer is a side of the disjunction.
 use mathlib.Core.Path.{sym}
 use Rattle.fields.proofs.Choice.{is-same, not-same}
 use Rattle.fields.specs.Refusals.{badVariableCount}
 use Rattle.fields.specs.Tests.{less}
-use Rattle.fields.proofs.headers.is_bad_variable_count.Statement.{statement}
-use Rattle.fields.proofs.headers.is_bad_variable_count.Tie as tie
+use Rattle.headers.proofs.headers.is_bad_variable_count.Statement.{statement}
+use Rattle.headers.proofs.headers.is_bad_variable_count.Tie as tie
 
 returns : tie.Need-returns
 unfolding badVariableCount

@@ -3,10 +3,10 @@ use native.Mathlib.Nat.{le-of-lt, lt-of-le-of-lt, mul-le-mul-right}
 use native.Mathlib.Omega.{arith}
 use Prim.Native.Nat.{_<_}
 use mathlib.Core.Path.{refl}
-use Rattle.fields.specs.Headers.{tableSize}
+use Rattle.headers.specs.Headers.{tableSize}
 use borrow.Author.Needs.{needs}
-use Rattle.fields.proofs.headers.Header.table_size.Statement.{statement}
-use Rattle.fields.proofs.headers.Header.table_size.Tie as tie
+use Rattle.headers.proofs.headers.Header.table_size.Statement.{statement}
+use Rattle.headers.proofs.headers.Header.table_size.Tie as tie
 
 cast-n : tie.Need-cast-n
 cast-n c = search needs

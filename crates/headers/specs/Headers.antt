@@ -2,16 +2,16 @@
 use Prim.Native.Nat.{ℕ, _*_}
 use mathlib.Core.Bool.{Bool}
 use mathlib.Core.List.{List}
 use Rattle.fields.specs.declared.fields.ByteRead.{ByteRead}
 use Rattle.fields.specs.declared.fields.WordRead.{WordRead}
-use Rattle.fields.specs.declared.headers.Header.{Header}
-use Rattle.fields.specs.declared.headers.HeaderRead.{HeaderRead}
 use Rattle.fields.specs.declared.numbers.Cursor.{Cursor}
 use Rattle.fields.specs.declared.refusals.Refusal.{Refusal}
 use Rattle.fields.specs.Fields.{cursor, wordIs, thenByte, thenWord, judged, byteField, wordField}
 use Rattle.fields.specs.Refusals.{badHeaderMap, headerMapRefusal, badVariableCount, variableCountRefusal}
 use Rattle.fields.specs.Refusals.{badCount, countRefusal}
 use Rattle.fields.specs.Tests.{pick, has}
+use Rattle.headers.specs.declared.headers.Header.{Header}
+use Rattle.headers.specs.declared.headers.HeaderRead.{HeaderRead}
 
 abbrev pub header : ℕ → ℕ → ℕ → ℕ → Cursor → Header
 header map n records questions first =

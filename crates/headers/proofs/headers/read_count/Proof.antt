@@ -1,11 +1,11 @@
 -- Two bytes that are read are judged against the limit.
 use mathlib.Core.Path.{refl}
 use Rattle.fields.proofs.Choice.{chosen, passed, is-less, not-less}
-use Rattle.fields.specs.Headers.{countField}
 use Rattle.fields.specs.Refusals.{badCount}
+use Rattle.headers.specs.Headers.{countField}
 use borrow.Author.Needs.{needs}
-use Rattle.fields.proofs.headers.read_count.Statement.{statement}
-use Rattle.fields.proofs.headers.read_count.Tie as tie
+use Rattle.headers.proofs.headers.read_count.Statement.{statement}
+use Rattle.headers.proofs.headers.read_count.Tie as tie
 
 read-word-requires : tie.Need-read-word-requires
 read-word-requires c κs = search needs

@@ -1,10 +1,10 @@
 -- The flag chooses between the count and 0.
 use mathlib.Core.Path.{refl}
 use Rattle.fields.proofs.Choice.{chosen, passed}
-use Rattle.fields.specs.Headers.{countIf}
+use Rattle.headers.specs.Headers.{countIf}
 use borrow.Author.Needs.{needs}
-use Rattle.fields.proofs.headers.read_count_if.Statement.{statement}
-use Rattle.fields.proofs.headers.read_count_if.Tie as tie
+use Rattle.headers.proofs.headers.read_count_if.Statement.{statement}
+use Rattle.headers.proofs.headers.read_count_if.Tie as tie
 
 read-count-requires : tie.Need-read-count-requires
 read-count-requires c κs = search needs

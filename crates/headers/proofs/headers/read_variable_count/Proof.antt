@@ -1,11 +1,11 @@
 -- A byte that is read is judged.
 use mathlib.Core.Path.{sym, _∙_}
 use Rattle.fields.proofs.Judged.{missing-byte, bad-byte, good-byte}
 use Rattle.fields.specs.Refusals.{badVariableCount, variableCountRefusal}
-use Rattle.fields.specs.Headers.{variableCount}
+use Rattle.headers.specs.Headers.{variableCount}
 use borrow.Author.Needs.{needs}
-use Rattle.fields.proofs.headers.read_variable_count.Statement.{statement}
-use Rattle.fields.proofs.headers.read_variable_count.Tie as tie
+use Rattle.headers.proofs.headers.read_variable_count.Statement.{statement}
+use Rattle.headers.proofs.headers.read_variable_count.Tie as tie
 
 read-byte-requires : tie.Need-read-byte-requires
 read-byte-requires c κs = search needs

@@ -1,16 +1,16 @@
 // The header: a map byte, then by rising bit the fields whose bit stands.
-use crate::fields::ByteRead;
-use crate::fields::WordField;
-use crate::fields::WordRead;
-use crate::fields::has_bit;
-use crate::fields::read_byte;
-use crate::fields::read_word;
-use crate::numbers::Cursor;
-use crate::refusals::Fault;
-use crate::refusals::Refusal;
+use fields::ByteRead;
+use fields::Cursor;
+use fields::Fault;
+use fields::Refusal;
+use fields::WordField;
+use fields::WordRead;
+use fields::has_bit;
+use fields::read_byte;
+use fields::read_word;
 ghost use mathlib.Core.Path.{_≡_};
 ghost use Rattle.fields.specs.Refusals.{badHeaderMap, badVariableCount};
-ghost use Rattle.fields.specs.Headers.{headerMap, variableCount, countField, countIf, headerOf, tableSize};
+ghost use Rattle.headers.specs.Headers.{headerMap, variableCount, countField, countIf, headerOf, tableSize};
 
 // The limits of the counts.
 pub const MOST_VARIABLES: u8 = 128;

@@ -5,16 +5,17 @@ use mathlib.Core.List.{List}
 use mathlib.Core.Path.{_≡_}
 use lib.ListN.{length}
 use native.Mathlib.Omega.{arith}
-use Rattle.fields.specs.declared.headers.Header.{Header}
-use Rattle.fields.specs.declared.headers.HeaderRead.{HeaderRead}
 use Rattle.fields.specs.declared.numbers.Cursor.{Cursor}
+use Rattle.fields.specs.declared.refusals.Refusal.{Refusal}
 use Rattle.fields.specs.Fields.{cursor}
-use Rattle.fields.specs.Headers.{headerMap, variableCount, countField, countIf, headerOf}
 use Rattle.fields.specs.Refusals.{badHeaderMap, badVariableCount, badCount}
 use Rattle.fields.specs.Tests.{pick, has, same, less}
 use Rattle.fields.proofs.Chains.{Of, either, after-byte, after-word}
 use Rattle.fields.proofs.Choice.{less-false, same-false, or-left, or-right, pick-most}
 use Rattle.fields.proofs.Extents.{WordSpans, nothing-spans, word-spans, judged-spans}
+use Rattle.headers.specs.declared.headers.Header.{Header}
+use Rattle.headers.specs.declared.headers.HeaderRead.{HeaderRead}
+use Rattle.headers.specs.Headers.{thenHeader, headerMap, variableCount, countField, countIf, headerOf}
 
 pub record Heads (s : List ℕ) (h : Header) : Type 0 where
   pub some : 1 ≤ h .variables
@@ -69,3 +70,11 @@ header-spans s =
         inside = p₄ .0 .inside (p₃ .0 .inside (p₂ .2));
       };
     }
+
+-- what holds of every refusal and of what follows a header holds of the chain
+module _ {A : Type 0} {P : A → Type 0} {refused : Refusal → A} where
+  pub after-header : {Q : HeaderRead → Type 0} {r : HeaderRead} {next : Header → A} → Of Q r
+      → ((q : Refusal) → Q (HeaderRead.Refused q) → Of P (refused q))
+      → ((x : Header) → Q (HeaderRead.Is x) → Of P (next x)) → Of P (thenHeader r refused next)
+  after-header {r = (HeaderRead.Is x)} h stop go = go x (h .holds)
+  after-header {r = (HeaderRead.Refused q)} h stop go = stop q (h .holds)

@@ -1,10 +1,10 @@
 -- Each answer is a side of the disjunction.
 use mathlib.Core.Path.{sym}
 use Rattle.fields.specs.Refusals.{badHeaderMap}
 use Rattle.fields.specs.Tests.{less}
 use borrow.Author.Needs.{needs}
-use Rattle.fields.proofs.headers.is_bad_header_map.Statement.{statement}
-use Rattle.fields.proofs.headers.is_bad_header_map.Tie as tie
+use Rattle.headers.proofs.headers.is_bad_header_map.Statement.{statement}
+use Rattle.headers.proofs.headers.is_bad_header_map.Tie as tie
 
 has-bit-requires : tie.Need-has-bit-requires
 has-bit-requires c κs = search needs
