@@ -8,7 +8,7 @@ use native.Mathlib.Omega.{arith}
 use Rattle.fields.specs.declared.numbers.Variable.{Variable}
 use Rattle.fields.specs.Fields.{variable}
 use Rattle.fields.proofs.Choice.{chosen, passed}
-use Rattle.sheet.specs.declared.items.Statement.{Statement}
+use Rattle.items.specs.declared.items.Statement.{Statement}
 use Rattle.rules.specs.declared.clashes.Clash.{Clash}
 use Rattle.rules.specs.Facts.{compatible, Relation}
 use Rattle.rules.specs.Clashes.{labelsDiffer, clashesAt, clashInRow, clashInRows}

@@ -8,8 +8,8 @@ use mathlib.Core.Path.{_≡_, sym, ap, subst, _∙_}
 use native.Mathlib.Omega.{arith}
 use Rattle.fields.specs.Tests.{less}
 use Rattle.fields.proofs.Choice.{less-true, less-false}
-use Rattle.sheet.specs.declared.items.Statement.{Statement}
-use Rattle.sheet.specs.Statements.{Names, AllName}
+use Rattle.items.specs.declared.items.Statement.{Statement}
+use Rattle.items.specs.Statements.{Names, AllName}
 use Rattle.rules.specs.Connectives.{_and_}
 use Rattle.rules.specs.Stated.{labelling, Stated, anyBelow}
 use Rattle.rules.specs.Facts.{Kind, ordered, compatible, Relation, fact, Closed}

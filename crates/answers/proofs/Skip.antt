@@ -7,8 +7,8 @@ use mathlib.Core.Path.{_≡_, sym, ap, subst, _∙_}
 use native.Mathlib.Omega.{arith}
 use Rattle.fields.specs.Tests.{same, pick}
 use Rattle.fields.proofs.Choice.{same-true}
-use Rattle.sheet.specs.declared.items.Statement.{Statement}
-use Rattle.sheet.specs.Statements.{AllName}
+use Rattle.items.specs.declared.items.Statement.{Statement}
+use Rattle.items.specs.Statements.{AllName}
 use Rattle.rules.specs.Stated.{labelling, Stated, ifLabelling}
 use Rattle.rules.specs.Clashes.{clashesAt, clashes}
 use Rattle.rules.proofs.Logic.{second-of, decided, refuted, last-or-before}

@@ -5,7 +5,7 @@ use mathlib.Core.Bool.{Bool, not}
 use mathlib.Core.List.{List}
 use mathlib.Core.Path.{_≡_}
 use Rattle.fields.specs.Tests.{same, pick}
-use Rattle.sheet.specs.declared.items.Statement.{Statement}
+use Rattle.items.specs.declared.items.Statement.{Statement}
 use Rattle.rules.specs.Connectives.{_and_}
 use Rattle.rules.specs.Stated.{labelling, Stated, someLabelling}
 use Rattle.rules.specs.Clashes.{labelsDiffer}

@@ -5,7 +5,7 @@ use mathlib.Core.Bool.{Bool, true, false, not}
 use mathlib.Core.List.{List}
 use Rattle.fields.specs.Fields.{label}
 use Rattle.fields.specs.Tests.{same, pick}
-use Rattle.sheet.specs.declared.items.Statement.{Statement}
+use Rattle.items.specs.declared.items.Statement.{Statement}
 use Rattle.rules.specs.Stated.{ifLabelling}
 use Rattle.answers.specs.declared.spread.Spread.{Spread}
 

@@ -5,8 +5,8 @@ use mathlib.Core.Bool.{Bool, false}
 use mathlib.Core.List.{List, [], _∷_, _++_}
 use mathlib.Core.Path.{_≡_}
 use Rattle.fields.specs.Tests.{same, pick}
-use Rattle.sheet.specs.declared.items.Statement.{Statement}
-use Rattle.sheet.specs.Statements.{AllName}
+use Rattle.items.specs.declared.items.Statement.{Statement}
+use Rattle.items.specs.Statements.{AllName}
 use Rattle.rules.specs.Stated.{ordering, compatibility, selection, labelling}
 use Rattle.rules.specs.Tables.{facts, Shape}
 use Rattle.rules.specs.Derived.{derived}

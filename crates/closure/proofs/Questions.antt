@@ -9,8 +9,8 @@ use Rattle.fields.specs.declared.numbers.Feature.{Feature}
 use Rattle.fields.specs.declared.numbers.Label.{Label}
 use Rattle.fields.specs.declared.numbers.Variable.{Variable}
 use Rattle.fields.specs.Tests.{less, same}
-use Rattle.sheet.specs.declared.items.Statement.{Statement}
-use Rattle.sheet.specs.Statements.{Names}
+use Rattle.items.specs.declared.items.Statement.{Statement}
+use Rattle.items.specs.Statements.{Names}
 use Rattle.rules.specs.Connectives.{_or_}
 use Rattle.rules.specs.Stated.{selection, labelling, Stated}
 use Rattle.rules.specs.Facts.{Kind, ordered, compatible, fact}

@@ -18,9 +18,9 @@ use Rattle.headers.specs.declared.headers.Header as H
 use Rattle.headers.specs.declared.headers.HeaderRead.{HeaderRead}
 use Rattle.headers.specs.Headers as Heads
 use Rattle.headers.specs.Headers.{thenHeader, headerOf, headerMap, variableCount, countIf}
-use Rattle.sheet.specs.declared.items.EndRead.{EndRead}
+use Rattle.items.specs.declared.items.EndRead.{EndRead}
+use Rattle.items.specs.Items.{thenEnd, itemsEnd}
 use Rattle.sheet.specs.declared.whole.SheetRead.{SheetRead}
-use Rattle.sheet.specs.Items.{thenEnd, itemsEnd}
 use Rattle.sheet.specs.Parts as Parts
 use Rattle.sheet.specs.Sheets as Read
 use Rattle.sheet.specs.Sheets.{thenSheet, bodyOf, sheetAt, sheetOf}

@@ -7,7 +7,7 @@ use lib.Dec.{eqb, leb}
 use native.Mathlib.Omega.{arith}
 use Rattle.fields.specs.declared.refusals.Fault.{Fault}
 use Rattle.fields.specs.Refusals.{numberOf}
-use Rattle.sheet.specs.declared.items.Statement as S
+use Rattle.items.specs.declared.items.Statement as S
 use Rattle.origin.specs.Converted.{asStatement}
 use Rattle.origin.specs.Sheets.{Statement}
 

@@ -12,15 +12,15 @@ use Rattle.fields.specs.declared.refusals.Refusal.{Refusal}
 use Rattle.fields.specs.Refusals.{remain, trailingRefusal}
 use Rattle.fields.specs.Tests.{pick, less}
 use Rattle.fields.proofs.Chains.{told}
-use Rattle.sheet.specs.declared.items.EndRead.{EndRead}
-use Rattle.sheet.specs.declared.items.ItemRead.{ItemRead}
-use Rattle.sheet.specs.Items as Read
-use Rattle.sheet.specs.Items.{thenItem, thenEnd, itemsEnd, itemsOf}
+use Rattle.items.specs.declared.items.EndRead.{EndRead}
+use Rattle.items.specs.declared.items.ItemRead.{ItemRead}
+use Rattle.items.specs.Items as Read
+use Rattle.items.specs.Items.{thenItem, thenEnd, itemsEnd, itemsOf}
+use Rattle.items.specs.Statements.{statementsOf, questionOf}
+use Rattle.items.proofs.Lawful.{item-spans}
+use Rattle.items.proofs.Runs.{run-next}
 use Rattle.sheet.specs.Sheets.{allStatements}
-use Rattle.sheet.specs.Statements.{statementsOf, questionOf}
-use Rattle.sheet.proofs.Lawful.{item-spans}
 use Rattle.sheet.proofs.Named.{question-alone}
-use Rattle.sheet.proofs.Runs.{run-next}
 use Rattle.origin.specs.Sheets.{Statement, joinS, Got, got, bad, sheet, Item}
 use Rattle.origin.specs.Sheets.{questionsFrom, recordsFrom, recordBytesFrom}
 use Rattle.origin.specs.Converted.{asStatement, badItem, asItem, badGot}

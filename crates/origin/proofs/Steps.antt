@@ -10,9 +10,9 @@ use Rattle.fields.specs.declared.refusals.Refusal.{Refusal}
 use Rattle.fields.specs.Fields.{cursor, variable, thenVariable, thenWord, wordIf, variableIf}
 use Rattle.fields.specs.Refusals.{cut, variableRefusal}
 use Rattle.fields.specs.Tests.{pick}
-use Rattle.sheet.specs.declared.items.ItemRead.{ItemRead}
-use Rattle.sheet.specs.declared.items.Statement as S
-use Rattle.sheet.specs.Statements.{statedIf}
+use Rattle.items.specs.declared.items.ItemRead.{ItemRead}
+use Rattle.items.specs.declared.items.Statement as S
+use Rattle.items.specs.Statements.{statedIf}
 use Rattle.origin.specs.Sheets.{Statement, statement, addS, Item, item, byteAt, wordAt}
 use Rattle.origin.specs.Sheets.{varStep, childStep, labelStep}
 use Rattle.origin.specs.Converted.{asStatement, badItem, asItem}

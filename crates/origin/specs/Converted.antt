@@ -5,11 +5,11 @@ use Rattle.fields.specs.declared.refusals.Place.{Place}
 use Rattle.fields.specs.declared.refusals.Refusal.{Refusal}
 use Rattle.fields.specs.Refusals.{numberOf}
 use Rattle.headers.specs.declared.headers.HeaderRead.{HeaderRead}
-use Rattle.sheet.specs.declared.items.ItemRead.{ItemRead}
-use Rattle.sheet.specs.declared.items.Statement as S
+use Rattle.items.specs.declared.items.ItemRead.{ItemRead}
+use Rattle.items.specs.declared.items.Statement as S
+use Rattle.items.specs.Statements.{statementsOf}
 use Rattle.sheet.specs.declared.whole.SheetRead.{SheetRead}
 use Rattle.sheet.specs.Sheets as Read
-use Rattle.sheet.specs.Statements.{statementsOf}
 use Rattle.origin.specs.Sheets.{Statement, statement, Item, item, Sheet, sheet, Got, got, bad}
 use Rattle.origin.specs.Sheets.{Header, header, badHeader}
 

@@ -9,7 +9,7 @@ use native.Mathlib.Omega.{arith}
 use Rattle.fields.specs.Fields.{variable}
 use Rattle.fields.specs.Tests.{less, same, pick}
 use Rattle.fields.proofs.Choice.{is-same, not-same, same-true, same-false, less-true, less-false}
-use Rattle.sheet.specs.declared.items.Statement.{Statement}
+use Rattle.items.specs.declared.items.Statement.{Statement}
 use Rattle.rules.specs.declared.clashes.Clash.{Clash}
 use Rattle.rules.specs.Stated.{labelling, Stated}
 use Rattle.rules.specs.Facts.{Relation}

@@ -6,7 +6,7 @@ use mathlib.Core.Option.{Option, none, some, Option·none-ne-some, Option·some-
 use mathlib.Core.Path.{_≡_, refl, sym, ap, subst, _∙_}
 use Rattle.fields.specs.Tests.{same, pick}
 use Rattle.fields.proofs.Choice.{is-same, same-true, chosen, passed}
-use Rattle.sheet.specs.declared.items.Statement.{Statement}
+use Rattle.items.specs.declared.items.Statement.{Statement}
 use Rattle.rules.specs.Stated.{labelling, Stated, firstLabel}
 use Rattle.rules.specs.Replies.{statedLabel}
 use Rattle.rules.proofs.Logic.{decided}

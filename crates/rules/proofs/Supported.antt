@@ -4,8 +4,8 @@ use mathlib.Core.Bool.{true}
 use mathlib.Core.List.{List}
 use mathlib.Core.Path.{_≡_, refl, sym, subst}
 use Rattle.fields.proofs.Choice.{is-same, same-true}
-use Rattle.sheet.specs.declared.items.Statement.{Statement}
-use Rattle.sheet.specs.Statements.{Names}
+use Rattle.items.specs.declared.items.Statement.{Statement}
+use Rattle.items.specs.Statements.{Names}
 use Rattle.rules.specs.Stated.{selection, labelling, Stated}
 use Rattle.rules.specs.Facts.{Kind, ordered, compatible, Relation, Holds}
 use Rattle.rules.specs.Support.{underChild, overChild, underLabel, supported}

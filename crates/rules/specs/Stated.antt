@@ -5,7 +5,7 @@ use mathlib.Core.List.{List, [], _∷_, List·Memᴰ}
 use mathlib.Core.Option.{Option, none, some}
 use Rattle.fields.specs.Fields.{variable, feature, label}
 use Rattle.fields.specs.Tests.{pick}
-use Rattle.sheet.specs.declared.items.Statement.{Statement}
+use Rattle.items.specs.declared.items.Statement.{Statement}
 use Rattle.rules.specs.Connectives.{_or_}
 
 -- i ≤ j

@@ -15,12 +15,12 @@ use Rattle.headers.specs.declared.headers.HeaderRead.{HeaderRead}
 use Rattle.headers.specs.Headers.{headerOf}
 use Rattle.headers.proofs.Heads.{after-header}
 use Rattle.headers.proofs.Heads.{Heads, header-spans}
-use Rattle.sheet.specs.declared.items.EndRead.{EndRead}
+use Rattle.items.specs.declared.items.EndRead.{EndRead}
+use Rattle.items.specs.Items.{itemsEnd}
+use Rattle.items.proofs.Chains.{after-end}
+use Rattle.items.proofs.Runs.{run-spans}
 use Rattle.sheet.specs.declared.whole.SheetRead.{SheetRead}
-use Rattle.sheet.specs.Items.{itemsEnd}
 use Rattle.sheet.specs.Sheets.{bodyOf, readSheet, longest}
-use Rattle.sheet.proofs.Chains.{after-end}
-use Rattle.sheet.proofs.Runs.{run-spans}
 
 pub record Accepts (s : List ℕ) (h : Header) (asked : Cursor) : Type 0 where
   pub heads : Heads s h

@@ -1,8 +1,4 @@
--- Laws that belong to no one function, from items up to the whole sheet.
-pub mod Chains
-pub mod Filled
-pub mod Lawful
-pub mod Runs
+-- Laws of the whole sheet that belong to no one function.
 pub mod Accepted
 pub mod Named
 pub mod Longest

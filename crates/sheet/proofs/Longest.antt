@@ -19,13 +19,13 @@ use Rattle.fields.proofs.Chains.{Of, told, either, after-word, after-variable}
 use Rattle.fields.proofs.Choice.{chosen, passed, is-less, not-less, is-same, less-true}
 use Rattle.headers.specs.declared.headers.HeaderRead.{HeaderRead}
 use Rattle.headers.specs.Headers.{header, headerMap, variableCount, countField, countIf, headerOf}
-use Rattle.sheet.specs.declared.items.EndRead.{EndRead}
-use Rattle.sheet.specs.declared.items.Item.{Item}
-use Rattle.sheet.specs.declared.items.ItemRead.{ItemRead}
+use Rattle.items.specs.declared.items.EndRead.{EndRead}
+use Rattle.items.specs.declared.items.Item.{Item}
+use Rattle.items.specs.declared.items.ItemRead.{ItemRead}
+use Rattle.items.specs.Items.{mapField, fieldsAt, itemAt, itemsEnd, fieldsWidth, width}
+use Rattle.items.proofs.Lawful.{item-spans}
 use Rattle.sheet.specs.declared.whole.SheetRead.{SheetRead}
-use Rattle.sheet.specs.Items.{mapField, fieldsAt, itemAt, itemsEnd, fieldsWidth, width}
 use Rattle.sheet.specs.Sheets.{bodyOf, readSheet, longest}
-use Rattle.sheet.proofs.Lawful.{item-spans}
 
 -- so many values of f, from i on
 tabled : (ℕ → ℕ) → ℕ → ℕ → List ℕ

@@ -1,6 +1,4 @@
--- The format of a sheet above its fields, from items to the statements of the whole.
+-- The format of a whole sheet, and what it states and asks.
 pub mod Told
-pub mod Items
-pub mod Statements
 pub mod Sheets
 pub mod Parts

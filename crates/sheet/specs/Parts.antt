@@ -5,7 +5,7 @@ use lib.ListN.{take, drop}
 use Rattle.fields.specs.declared.refusals.Place.{Place}
 use Rattle.fields.specs.Tests.{less, pick}
 use Rattle.headers.specs.declared.headers.Header.{Header}
-use Rattle.sheet.specs.Items.{thenItem, thenEnd, itemAt, itemsEnd}
+use Rattle.items.specs.Items.{thenItem, thenEnd, itemAt, itemsEnd}
 use Rattle.sheet.specs.Sheets.{thenSheet, readSheet}
 
 -- the bytes of the record behind so many records

@@ -3,9 +3,9 @@ use Prim.Native.Nat.{ℕ}
 use Rattle.fields.specs.declared.refusals.Refusal.{Refusal}
 use Rattle.fields.specs.Refusals.{numberOf}
 use Rattle.headers.specs.declared.headers.HeaderRead.{HeaderRead}
-use Rattle.sheet.specs.declared.items.EndRead.{EndRead}
-use Rattle.sheet.specs.declared.items.ItemRead.{ItemRead}
-use Rattle.sheet.specs.declared.items.QuestionRead.{QuestionRead}
+use Rattle.items.specs.declared.items.EndRead.{EndRead}
+use Rattle.items.specs.declared.items.ItemRead.{ItemRead}
+use Rattle.items.specs.declared.items.QuestionRead.{QuestionRead}
 use Rattle.sheet.specs.declared.whole.SheetRead.{SheetRead}
 
 pub record Told : Type 0 where

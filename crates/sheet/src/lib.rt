@@ -1,5 +1,4 @@
-// Sheets: the byte format above its fields, and its reader.
-mod items;
+// Sheets: the whole byte format, and its reader.
 mod parts;
 mod whole;
 

@@ -1,6 +1,4 @@
 // The whole sheet: header, records, questions, and nothing behind them. One pass judges all of it.
-use crate::items::EndRead;
-use crate::items::items_end;
 use fields::Cursor;
 use fields::Fault;
 use fields::Place;
@@ -8,6 +6,8 @@ use fields::Refusal;
 use headers::Header;
 use headers::HeaderRead;
 use headers::read_header;
+use items::EndRead;
+use items::items_end;
 ghost use mathlib.Core.Path.{_≡_};
 ghost use Rattle.sheet.specs.Sheets.{bodyOf, readSheet};
 

@@ -6,7 +6,7 @@ use mathlib.Core.Path.{_≡_, refl, sym, _∙_}
 use native.Mathlib.Omega.{arith}
 use Rattle.fields.specs.Tests.{same}
 use Rattle.fields.proofs.Choice.{is-same, not-same}
-use Rattle.sheet.specs.declared.items.Statement.{Statement}
+use Rattle.items.specs.declared.items.Statement.{Statement}
 use Rattle.rules.specs.Connectives.{_and_, _or_}
 use Rattle.rules.specs.Facts.{Kind, ordered, compatible, Relation, Holds}
 use Rattle.rules.specs.Stated.{selection, labelling, Stated, someSelection}

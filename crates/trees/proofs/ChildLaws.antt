@@ -7,7 +7,7 @@ use mathlib.Core.Path.{_≡_, refl, sym, subst, _∙_}
 use native.Mathlib.Omega.{arith}
 use Rattle.fields.specs.Tests.{same}
 use Rattle.fields.proofs.Choice.{same-true}
-use Rattle.sheet.specs.declared.items.Statement.{Statement}
+use Rattle.items.specs.declared.items.Statement.{Statement}
 use Rattle.rules.specs.Facts.{Kind, ordered, compatible, fact, Relation, Holds, Closed}
 use Rattle.rules.specs.Stated.{selection, labelling, Stated}
 use Rattle.rules.proofs.Supported.{under-by, over-by, under-of, over-of}

@@ -6,7 +6,7 @@ use mathlib.Core.Path.{_≡_, refl, sym, subst}
 use native.Mathlib.Omega.{arith}
 use Rattle.fields.specs.Tests.{same}
 use Rattle.fields.proofs.Choice.{is-same}
-use Rattle.sheet.specs.declared.items.Statement.{Statement}
+use Rattle.items.specs.declared.items.Statement.{Statement}
 use Rattle.rules.specs.Facts.{ordered, Relation, Holds}
 use Rattle.rules.specs.Stated.{selection, Stated}
 use Rattle.rules.proofs.Lists.{named}

@@ -6,8 +6,8 @@ use mathlib.Core.Logic.{inl, inr}
 use mathlib.Core.Path.{_≡_, refl, sym, subst}
 use Rattle.fields.specs.Tests.{same}
 use Rattle.fields.proofs.Choice.{is-same, same-true, same-false}
-use Rattle.sheet.specs.declared.items.Statement.{Statement}
-use Rattle.sheet.specs.Statements.{Names, AllName}
+use Rattle.items.specs.declared.items.Statement.{Statement}
+use Rattle.items.specs.Statements.{Names, AllName}
 use Rattle.rules.specs.Connectives.{_or_}
 use Rattle.rules.specs.Facts.{Kind, ordered, compatible, Relation, Holds, Closed}
 use Rattle.rules.specs.Stated.{selection, labelling, Stated}

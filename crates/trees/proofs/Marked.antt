@@ -7,8 +7,8 @@ use mathlib.Core.Path.{_≡_, refl, sym, subst}
 use native.Mathlib.Omega.{arith}
 use Rattle.fields.specs.Tests.{less}
 use Rattle.fields.proofs.Choice.{is-less, not-less}
-use Rattle.sheet.specs.declared.items.Statement.{Statement}
-use Rattle.sheet.specs.Statements.{Names}
+use Rattle.items.specs.declared.items.Statement.{Statement}
+use Rattle.items.specs.Statements.{Names}
 use Rattle.rules.specs.Facts.{Kind, ordered, compatible, fact, Relation, Holds, Closed}
 use Rattle.rules.specs.Stated.{selection, labelling, Stated}
 use Rattle.rules.proofs.Logic.{contrary}

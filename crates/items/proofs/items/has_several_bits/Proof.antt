@@ -3,8 +3,8 @@ use Rattle.fields.specs.Tests.{same}
 use mathlib.Core.Path.{sym}
 use Rattle.fields.proofs.Choice.{is-same, not-same}
 use Rattle.fields.specs.Refusals.{severalBits}
-use Rattle.sheet.proofs.items.has_several_bits.Statement.{statement}
-use Rattle.sheet.proofs.items.has_several_bits.Tie as tie
+use Rattle.items.proofs.items.has_several_bits.Statement.{statement}
+use Rattle.items.proofs.items.has_several_bits.Tie as tie
 
 returns : tie.Need-returns
 unfolding severalBits

@@ -2,10 +2,10 @@
 use Rattle.fields.specs.declared.numbers.Cursor.{Cursor}
 use Rattle.fields.specs.declared.refusals.Refusal.{Refusal}
 use Rattle.fields.proofs.Chains.{Of}
-use Rattle.sheet.specs.declared.items.EndRead.{EndRead}
-use Rattle.sheet.specs.declared.items.Item.{Item}
-use Rattle.sheet.specs.declared.items.ItemRead.{ItemRead}
-use Rattle.sheet.specs.Items.{thenItem, thenEnd}
+use Rattle.items.specs.declared.items.EndRead.{EndRead}
+use Rattle.items.specs.declared.items.Item.{Item}
+use Rattle.items.specs.declared.items.ItemRead.{ItemRead}
+use Rattle.items.specs.Items.{thenItem, thenEnd}
 
 -- Q is what is known of the answer, P what is to be shown
 module _ {A : Type 0} {P : A → Type 0} {refused : Refusal → A} where

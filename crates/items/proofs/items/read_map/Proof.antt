@@ -2,10 +2,10 @@
 use mathlib.Core.Path.{sym, _∙_}
 use Rattle.fields.proofs.Judged.{missing-byte, bad-byte, good-byte}
 use Rattle.fields.specs.Refusals.{badItemMap, itemMapRefusal}
-use Rattle.sheet.specs.Items.{mapField}
+use Rattle.items.specs.Items.{mapField}
 use borrow.Author.Needs.{needs}
-use Rattle.sheet.proofs.items.read_map.Statement.{statement}
-use Rattle.sheet.proofs.items.read_map.Tie as tie
+use Rattle.items.proofs.items.read_map.Statement.{statement}
+use Rattle.items.proofs.items.read_map.Tie as tie
 
 read-byte-requires : tie.Need-read-byte-requires
 read-byte-requires c κs = search needs

@@ -13,11 +13,11 @@ use Rattle.fields.specs.Tests.{less, same, pick, has}
 use Rattle.fields.proofs.Chains.{Of, after-byte, after-variable}
 use Rattle.fields.proofs.Choice.{same-true, or-right, or-cases, pick-most}
 use Rattle.fields.proofs.Extents.{judged-spans, variable-spans}
-use Rattle.sheet.specs.declared.items.Item.{Item}
-use Rattle.sheet.specs.declared.items.ItemRead.{ItemRead}
-use Rattle.sheet.specs.Items.{mapField, itemAt, fieldsWidth, width, most}
-use Rattle.sheet.proofs.Chains.{as-item}
-use Rattle.sheet.proofs.Filled.{fields-span}
+use Rattle.items.specs.declared.items.Item.{Item}
+use Rattle.items.specs.declared.items.ItemRead.{ItemRead}
+use Rattle.items.specs.Items.{mapField, itemAt, fieldsWidth, width, most}
+use Rattle.items.proofs.Chains.{as-item}
+use Rattle.items.proofs.Filled.{fields-span}
 
 -- a lawful question map is one bit
 pub one-bit : {C : Type 0} (map : ℕ) → badItemMap Place.Question map ≡ false

@@ -1,9 +1,9 @@
 -- Each answer is the chain of fields so far.
 use mathlib.Core.Path.{refl}
-use Rattle.sheet.specs.Items.{fieldsAt}
+use Rattle.items.specs.Items.{fieldsAt}
 use borrow.Author.Needs.{needs}
-use Rattle.sheet.proofs.items.read_fields.Statement.{statement}
-use Rattle.sheet.proofs.items.read_fields.Tie as tie
+use Rattle.items.proofs.items.read_fields.Statement.{statement}
+use Rattle.items.proofs.items.read_fields.Tie as tie
 
 has-bit-requires : tie.Need-has-bit-requires
 has-bit-requires c κs = search needs

@@ -16,8 +16,8 @@ use fields::read_variable_if;
 use fields::read_word_if;
 ghost use mathlib.Core.Path.{_≡_};
 ghost use Rattle.fields.specs.Refusals.{definedBits, severalBits, badItemMap};
-ghost use Rattle.sheet.specs.Items.{mapField, fieldsAt, itemAt, questionAt, itemsEnd};
-ghost use Rattle.sheet.specs.Statements.{questionOf};
+ghost use Rattle.items.specs.Items.{mapField, fieldsAt, itemAt, questionAt, itemsEnd};
+ghost use Rattle.items.specs.Statements.{questionOf};
 
 // What a record states and a question asks.
 pub enum Statement {

@@ -1,10 +1,10 @@
 -- The bits are asked in their order.
 use mathlib.Core.Path.{refl}
 use Rattle.fields.proofs.Choice.{chosen, passed}
-use Rattle.sheet.specs.Statements.{questionOf}
+use Rattle.items.specs.Statements.{questionOf}
 use borrow.Author.Needs.{needs}
-use Rattle.sheet.proofs.items.question_of.Statement.{statement}
-use Rattle.sheet.proofs.items.question_of.Tie as tie
+use Rattle.items.proofs.items.question_of.Statement.{statement}
+use Rattle.items.proofs.items.question_of.Tie as tie
 
 has-bit-requires : tie.Need-has-bit-requires
 has-bit-requires c κs = search needs

@@ -9,9 +9,9 @@ use Rattle.fields.specs.declared.numbers.Variable.{Variable}
 use Rattle.fields.specs.Tests.{has}
 use Rattle.fields.proofs.Chains.{Of, after-word, after-variable}
 use Rattle.fields.proofs.Extents.{Spans, join, word-if-spans, variable-if-spans}
-use Rattle.sheet.specs.declared.items.Item.{Item}
-use Rattle.sheet.specs.declared.items.ItemRead.{ItemRead}
-use Rattle.sheet.specs.Items.{fieldsAt, fieldsWidth}
+use Rattle.items.specs.declared.items.Item.{Item}
+use Rattle.items.specs.declared.items.ItemRead.{ItemRead}
+use Rattle.items.specs.Items.{fieldsAt, fieldsWidth}
 
 -- the fields behind the subject: their map and subject are the item's, and each variable whose bit stands is below n
 pub record Fills (s : List ℕ) (n map : ℕ) (i : Variable) (c : Cursor) (x : Item) (next : Cursor) : Type 0 where

@@ -1,9 +1,9 @@
 -- An item that is read is asked for its statement.
 use mathlib.Core.Path.{refl}
-use Rattle.sheet.specs.Items.{questionAt}
+use Rattle.items.specs.Items.{questionAt}
 use borrow.Author.Needs.{needs}
-use Rattle.sheet.proofs.items.read_question.Statement.{statement}
-use Rattle.sheet.proofs.items.read_question.Tie as tie
+use Rattle.items.proofs.items.read_question.Statement.{statement}
+use Rattle.items.proofs.items.read_question.Tie as tie
 
 read-item-requires : tie.Need-read-item-requires
 read-item-requires c κs = search needs

@@ -3,8 +3,8 @@ use Prim.Native.Nat.{ℕ, _<_}
 use mathlib.Core.Bool.{Bool}
 use mathlib.Core.List.{List, [], _∷_, _++_}
 use Rattle.fields.specs.Tests.{pick, has}
-use Rattle.sheet.specs.declared.items.Item.{Item}
-use Rattle.sheet.specs.declared.items.Statement.{Statement}
+use Rattle.items.specs.declared.items.Item.{Item}
+use Rattle.items.specs.declared.items.Statement.{Statement}
 
 -- the bit of each kind of statement, by its value in a map: i ≤ j, i ~ j, i[f]j, a(i)
 abbrev pub bitOf : Statement → ℕ

@@ -10,11 +10,11 @@ use Rattle.fields.specs.Fields.{feature, label, thenByte, thenWord, thenVariabl
 use Rattle.fields.specs.Fields.{judged, byteField, variableField, wordIf, variableIf}
 use Rattle.fields.specs.Refusals.{badItemMap, itemMapRefusal}
 use Rattle.fields.specs.Tests.{pick, has}
-use Rattle.sheet.specs.declared.items.EndRead.{EndRead}
-use Rattle.sheet.specs.declared.items.Item.{Item}
-use Rattle.sheet.specs.declared.items.ItemRead.{ItemRead}
-use Rattle.sheet.specs.declared.items.QuestionRead.{QuestionRead}
-use Rattle.sheet.specs.Statements.{questionOf}
+use Rattle.items.specs.declared.items.EndRead.{EndRead}
+use Rattle.items.specs.declared.items.Item.{Item}
+use Rattle.items.specs.declared.items.ItemRead.{ItemRead}
+use Rattle.items.specs.declared.items.QuestionRead.{QuestionRead}
+use Rattle.items.specs.Statements.{questionOf}
 
 abbrev pub item : ℕ → Variable → Variable → Variable → ℕ → Variable → ℕ → Item
 item map i j partner f child a =

@@ -10,12 +10,12 @@ use Rattle.fields.specs.declared.refusals.Place.{Place}
 use Rattle.fields.specs.declared.numbers.Cursor.{Cursor}
 use Rattle.fields.specs.declared.refusals.Refusal.{Refusal}
 use Rattle.fields.proofs.Chains.{Of}
-use Rattle.sheet.specs.declared.items.EndRead.{EndRead}
-use Rattle.sheet.specs.declared.items.Item.{Item}
-use Rattle.sheet.specs.declared.items.ItemRead.{ItemRead}
-use Rattle.sheet.specs.Items.{itemAt, itemsEnd, itemsOf, most}
-use Rattle.sheet.proofs.Chains.{after-item, as-end}
-use Rattle.sheet.proofs.Lawful.{item-spans, width-most}
+use Rattle.items.specs.declared.items.EndRead.{EndRead}
+use Rattle.items.specs.declared.items.Item.{Item}
+use Rattle.items.specs.declared.items.ItemRead.{ItemRead}
+use Rattle.items.specs.Items.{itemAt, itemsEnd, itemsOf, most}
+use Rattle.items.proofs.Chains.{after-item, as-end}
+use Rattle.items.proofs.Lawful.{item-spans, width-most}
 
 module _ (place : Place) (s : List ℕ) (n : ℕ) (c : Cursor) where
   pub run-over : (left : ℕ) → left ≤ 0 → itemsEnd left place s n c ≡ EndRead.At c

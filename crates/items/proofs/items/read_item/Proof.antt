@@ -1,9 +1,9 @@
 -- Each answer is the chain of fields so far.
 use mathlib.Core.Path.{refl}
-use Rattle.sheet.specs.Items.{itemAt}
+use Rattle.items.specs.Items.{itemAt}
 use borrow.Author.Needs.{needs}
-use Rattle.sheet.proofs.items.read_item.Statement.{statement}
-use Rattle.sheet.proofs.items.read_item.Tie as tie
+use Rattle.items.proofs.items.read_item.Statement.{statement}
+use Rattle.items.proofs.items.read_item.Tie as tie
 
 read-map-requires : tie.Need-read-map-requires
 read-map-requires c κs = search needs

@@ -3,8 +3,8 @@ use mathlib.Core.Path.{refl, sym}
 use Rattle.fields.proofs.Choice.{is-same, not-same, is-less, not-less}
 use Rattle.fields.specs.Refusals.{badItemMap}
 use borrow.Author.Needs.{needs}
-use Rattle.sheet.proofs.items.is_bad_item_map.Statement.{statement}
-use Rattle.sheet.proofs.items.is_bad_item_map.Tie as tie
+use Rattle.items.proofs.items.is_bad_item_map.Statement.{statement}
+use Rattle.items.proofs.items.is_bad_item_map.Tie as tie
 
 returns : tie.Need-returns
 unfolding badItemMap

@@ -2,10 +2,10 @@
 use mathlib.Core.Path.{_≡_, refl, sym, _∙_}
 use native.Mathlib.Omega.{arith}
 use borrow.Author.Needs.{needs}
-use Rattle.sheet.specs.Items.{itemsEnd}
-use Rattle.sheet.proofs.Runs.{run-over, run-on, run-refused}
-use Rattle.sheet.proofs.items.items_end.Statement.{statement}
-use Rattle.sheet.proofs.items.items_end.Tie as tie
+use Rattle.items.specs.Items.{itemsEnd}
+use Rattle.items.proofs.Runs.{run-over, run-on, run-refused}
+use Rattle.items.proofs.items.items_end.Statement.{statement}
+use Rattle.items.proofs.items.items_end.Tie as tie
 
 abbrev Inv-loop : tie.InvT-loop
 Inv-loop count place sheet n left₀ at₀ left at =
