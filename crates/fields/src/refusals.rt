@@ -2,12 +2,6 @@
 ghost use mathlib.Core.Path.{_≡_};
 ghost use Rattle.fields.specs.Refusals.{numberOf};
 
-// Where an item stands: it decides which maps are lawful.
-pub enum Place {
-    Record,
-    Question,
-}
-
 pub enum Fault {
     // 1: a field that is due is missing or incomplete; told at the sheet's length
     Cut,
@@ -33,6 +27,12 @@ pub enum Fault {
 pub struct Refusal {
     pub fault: Fault,
     pub at: usize,
+}
+
+// Where an item stands: it decides which maps are lawful.
+pub enum Place {
+    Record,
+    Question,
 }
 
 impl Fault {

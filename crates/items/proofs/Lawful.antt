@@ -6,8 +6,8 @@ use mathlib.Core.Path.{_≡_}
 use borrow.Author.Tests.{not-false}
 use lib.ListN.{length}
 use native.Mathlib.Omega.{arith}
-use Rattle.fields.specs.declared.refusals.Place.{Place}
 use Rattle.fields.specs.declared.numbers.Cursor.{Cursor}
+use Rattle.fields.specs.declared.refusals.Place.{Place}
 use Rattle.fields.specs.Refusals.{badItemMap, severalBits}
 use Rattle.fields.specs.Tests.{less, same, pick, has}
 use Rattle.fields.proofs.Chains.{Of, after-byte, after-variable}

@@ -2,9 +2,9 @@
 use Prim.Native.Nat.{ℕ, zero, suc, _+_}
 use mathlib.Core.List.{List, [], _∷_}
 use Rattle.fields.specs.declared.fields.ByteRead.{ByteRead}
-use Rattle.fields.specs.declared.refusals.Place.{Place}
 use Rattle.fields.specs.declared.numbers.Cursor.{Cursor}
 use Rattle.fields.specs.declared.numbers.Variable.{Variable}
+use Rattle.fields.specs.declared.refusals.Place.{Place}
 use Rattle.fields.specs.declared.refusals.Refusal.{Refusal}
 use Rattle.fields.specs.Fields.{feature, label, thenByte, thenWord, thenVariable}
 use Rattle.fields.specs.Fields.{judged, byteField, variableField, wordIf, variableIf}

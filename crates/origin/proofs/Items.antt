@@ -5,8 +5,8 @@ use mathlib.Core.Path.{_≡_, refl}
 use lib.Dec.{ltb}
 use native.Mathlib.Numerals.{add-one}
 use native.Mathlib.Omega.{arith}
-use Rattle.fields.specs.declared.refusals.Place.{Place}
 use Rattle.fields.specs.declared.numbers.Cursor.{Cursor}
+use Rattle.fields.specs.declared.refusals.Place.{Place}
 use Rattle.fields.specs.Fields.{cursor, variable, thenVariable, variableField}
 use Rattle.fields.specs.Refusals.{badItemMap, severalBits}
 use Rattle.fields.specs.Tests.{less, same, has}

@@ -5,16 +5,15 @@ use mathlib.Core.List.{List}
 use mathlib.Core.Path.{_≡_}
 use lib.ListN.{length}
 use native.Mathlib.Omega.{arith}
-use Rattle.fields.specs.declared.refusals.Place.{Place}
 use Rattle.fields.specs.declared.numbers.Cursor.{Cursor}
+use Rattle.fields.specs.declared.refusals.Place.{Place}
 use Rattle.fields.specs.Refusals.{remain}
 use Rattle.fields.proofs.Chains.{Of, known, either}
 use Rattle.fields.proofs.Choice.{less-false}
 use Rattle.headers.specs.declared.headers.Header.{Header}
 use Rattle.headers.specs.declared.headers.HeaderRead.{HeaderRead}
 use Rattle.headers.specs.Headers.{headerOf}
-use Rattle.headers.proofs.Heads.{after-header}
-use Rattle.headers.proofs.Heads.{Heads, header-spans}
+use Rattle.headers.proofs.Heads.{Heads, header-spans, after-header}
 use Rattle.items.specs.declared.items.EndRead.{EndRead}
 use Rattle.items.specs.Items.{itemsEnd}
 use Rattle.items.proofs.Chains.{after-end}

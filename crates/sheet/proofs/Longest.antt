@@ -8,9 +8,9 @@ use native.Mathlib.Nat.{suc-mul}
 use native.Mathlib.Omega.{arith}
 use Rattle.fields.specs.declared.fields.VariableRead.{VariableRead}
 use Rattle.fields.specs.declared.fields.WordRead.{WordRead}
-use Rattle.fields.specs.declared.refusals.Place.{Place}
 use Rattle.fields.specs.declared.numbers.Cursor.{Cursor}
 use Rattle.fields.specs.declared.numbers.Variable.{Variable}
+use Rattle.fields.specs.declared.refusals.Place.{Place}
 use Rattle.fields.specs.Fields.{cursor, word, byteField, wordField, variableField, wordIf, variableIf}
 use Rattle.fields.specs.Refusals.{ends, badHeaderMap, badVariableCount, badCount, badItemMap, severalBits}
 use Rattle.fields.specs.Refusals.{badVariable, remain}

@@ -3,8 +3,8 @@ use Prim.Native.Nat.{ℕ, _≤_}
 use mathlib.Core.List.{List}
 use mathlib.Core.Path.{_≡_, refl, subst, _∙_}
 use lib.ListN.{length, length-map}
-use Rattle.fields.specs.declared.refusals.Place.{Place}
 use Rattle.fields.specs.declared.numbers.Cursor.{Cursor}
+use Rattle.fields.specs.declared.refusals.Place.{Place}
 use Rattle.fields.specs.declared.refusals.Refusal.{Refusal}
 use Rattle.fields.proofs.Chains.{told}
 use Rattle.headers.specs.declared.headers.Header.{Header}

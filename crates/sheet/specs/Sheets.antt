@@ -1,8 +1,8 @@
 -- The whole sheet, and what it states and asks.
 use Prim.Native.Nat.{ℕ}
 use mathlib.Core.List.{List, [], _∷_, _++_, map}
-use Rattle.fields.specs.declared.refusals.Place.{Place}
 use Rattle.fields.specs.declared.numbers.Cursor.{Cursor}
+use Rattle.fields.specs.declared.refusals.Place.{Place}
 use Rattle.fields.specs.declared.refusals.Refusal.{Refusal}
 use Rattle.fields.specs.Refusals.{remain, trailingRefusal}
 use Rattle.fields.specs.Tests.{pick}
