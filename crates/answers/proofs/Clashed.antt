@@ -5,10 +5,10 @@ use mathlib.Core.List.{List}
 use mathlib.Core.Path.{_≡_, refl}
 use native.Mathlib.Numerals.{add-one}
 use native.Mathlib.Omega.{arith}
-use Rattle.sheet.specs.declared.items.Statement.{Statement}
-use Rattle.sheet.specs.declared.numbers.Variable.{Variable}
-use Rattle.sheet.specs.Fields.{variable}
-use Rattle.sheet.proofs.Choice.{chosen, passed}
+use Rattle.fields.specs.declared.numbers.Variable.{Variable}
+use Rattle.fields.specs.Fields.{variable}
+use Rattle.fields.proofs.Choice.{chosen, passed}
+use Rattle.items.specs.declared.items.Statement.{Statement}
 use Rattle.rules.specs.declared.clashes.Clash.{Clash}
 use Rattle.rules.specs.Facts.{compatible, Relation}
 use Rattle.rules.specs.Clashes.{labelsDiffer, clashesAt, clashInRow, clashInRows}

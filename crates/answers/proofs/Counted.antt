@@ -4,7 +4,7 @@ use mathlib.Core.Bool.{Bool, true, false}
 use mathlib.Core.Path.{_≡_, ap, _∙_}
 use native.Mathlib.Numerals.{add-one}
 use native.Mathlib.Omega.{arith}
-use Rattle.sheet.specs.Tests.{pick}
+use Rattle.fields.specs.Tests.{pick}
 use Rattle.rules.specs.Facts.{Kind, Relation}
 use Rattle.rules.specs.Tables.{countPassing, countRow, countRows, countFacts}
 

@@ -9,9 +9,9 @@ use mathlib.Core.List.{List·Memᴰ·not-nil, List·Memᴰ·eq-of-singleton}
 use mathlib.Core.Logic.{⊎-elim}
 use mathlib.Core.Path.{_≡_, refl, sym, ap, subst, _∙_}
 use native.Mathlib.Omega.{arith}
-use Rattle.sheet.specs.declared.items.Statement.{Statement}
-use Rattle.sheet.specs.Tests.{same, pick}
-use Rattle.sheet.proofs.Choice.{is-same, not-same, same-true, same-false}
+use Rattle.fields.specs.Tests.{same, pick}
+use Rattle.fields.proofs.Choice.{is-same, not-same, same-true, same-false}
+use Rattle.items.specs.declared.items.Statement.{Statement}
 use Rattle.rules.specs.Connectives.{_and_}
 use Rattle.rules.specs.Stated.{labelling, Stated}
 use Rattle.rules.specs.Clashes.{labelsDiffer}

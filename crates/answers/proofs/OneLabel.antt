@@ -6,10 +6,10 @@ use mathlib.Core.Bool.{Bool, true, false}
 use mathlib.Core.List.{List, [], _∷_, _++_}
 use mathlib.Core.Path.{_≡_, sym, ap, subst, _∙_}
 use native.Mathlib.Omega.{arith}
-use Rattle.sheet.specs.declared.items.Statement.{Statement}
-use Rattle.sheet.specs.Statements.{Names, AllName}
-use Rattle.sheet.specs.Tests.{less}
-use Rattle.sheet.proofs.Choice.{less-true, less-false}
+use Rattle.fields.specs.Tests.{less}
+use Rattle.fields.proofs.Choice.{less-true, less-false}
+use Rattle.items.specs.declared.items.Statement.{Statement}
+use Rattle.items.specs.Statements.{Names, AllName}
 use Rattle.rules.specs.Connectives.{_and_}
 use Rattle.rules.specs.Stated.{labelling, Stated, anyBelow}
 use Rattle.rules.specs.Facts.{Kind, ordered, compatible, Relation, fact, Closed}

@@ -4,8 +4,8 @@ use lib.ListN.{length, getD, set}
 use mathlib.Core.Bool.{Bool, not}
 use mathlib.Core.List.{List}
 use mathlib.Core.Path.{_≡_}
-use Rattle.sheet.specs.declared.items.Statement.{Statement}
-use Rattle.sheet.specs.Tests.{same, pick}
+use Rattle.fields.specs.Tests.{same, pick}
+use Rattle.items.specs.declared.items.Statement.{Statement}
 use Rattle.rules.specs.Connectives.{_and_}
 use Rattle.rules.specs.Stated.{labelling, Stated, someLabelling}
 use Rattle.rules.specs.Clashes.{labelsDiffer}

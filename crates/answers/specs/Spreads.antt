@@ -3,9 +3,9 @@ use Prim.Native.Nat.{ℕ, zero, suc}
 use lib.ListN.{getD}
 use mathlib.Core.Bool.{Bool, true, false, not}
 use mathlib.Core.List.{List}
-use Rattle.sheet.specs.declared.items.Statement.{Statement}
-use Rattle.sheet.specs.Fields.{label}
-use Rattle.sheet.specs.Tests.{same, pick}
+use Rattle.fields.specs.Fields.{label}
+use Rattle.fields.specs.Tests.{same, pick}
+use Rattle.items.specs.declared.items.Statement.{Statement}
 use Rattle.rules.specs.Stated.{ifLabelling}
 use Rattle.answers.specs.declared.spread.Spread.{Spread}
 

@@ -4,8 +4,8 @@ use lib.ListN.{getD}
 use mathlib.Core.Bool.{Bool}
 use mathlib.Core.List.{List}
 use mathlib.Core.Path.{_≡_}
-use Rattle.sheet.specs.declared.items.Statement.{Statement}
-use Rattle.sheet.specs.Tests.{same, pick}
+use Rattle.fields.specs.Tests.{same, pick}
+use Rattle.items.specs.declared.items.Statement.{Statement}
 use Rattle.rules.specs.Connectives.{_and_}
 use Rattle.rules.specs.Stated.{someSelection}
 use Rattle.rules.specs.Facts.{ordered, Relation}

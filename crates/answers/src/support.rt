@@ -3,7 +3,7 @@ use crate::cells::has_fact;
 use sheet::Statement;
 ghost use Prim.Native.Nat.{_<_};
 ghost use mathlib.Core.Path.{_≡_};
-ghost use Rattle.sheet.specs.Statements.{Names};
+ghost use Rattle.items.specs.Statements.{Names};
 ghost use Rattle.rules.specs.Tables.{facts};
 ghost use Rattle.selections.specs.Listed.{Selections};
 ghost use Rattle.answers.specs.Cells.{Lent};

@@ -6,14 +6,14 @@ use mathlib.Core.Bool.{Bool, true, false}
 use mathlib.Core.List.{List, [], _∷_, _++_}
 use mathlib.Core.Path.{_≡_, refl, ap, _∙_}
 use native.Mathlib.Omega.{arith}
-use Rattle.sheet.specs.declared.items.Statement.{Statement}
-use Rattle.sheet.specs.Statements.{Names}
-use Rattle.sheet.specs.Tests.{same, pick}
-use Rattle.sheet.proofs.Choice.{is-same, not-same, chosen, passed}
+use Rattle.fields.specs.Tests.{same, pick}
+use Rattle.fields.proofs.Choice.{is-same, not-same, chosen, passed}
+use Rattle.items.specs.declared.items.Statement.{Statement}
+use Rattle.items.specs.Statements.{Names}
+use Rattle.rules.specs.declared.clashes.Clash.{Clash}
 use Rattle.rules.specs.Stated.{ordering, compatibility, selection, labelling}
 use Rattle.rules.specs.Clashes.{clashes}
 use Rattle.rules.proofs.Logic.{last-or-before}
-use Rattle.rules.specs.declared.clashes.Clash.{Clash}
 use Rattle.facts.specs.Queue.{queueRoom}
 use Rattle.answers.specs.declared.spread.Spread.{Spread}
 use Rattle.closure.specs.Trials.{Standing, Asking, Tried, Restored}

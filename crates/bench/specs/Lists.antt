@@ -5,8 +5,8 @@ use mathlib.Core.Bool.{Bool, true, false}
 use mathlib.Core.List.{List}
 use mathlib.Core.Logic.{_↔_}
 use mathlib.Core.Path.{_≡_}
-use Rattle.sheet.specs.declared.items.Statement.{Statement}
-use Rattle.sheet.specs.Statements.{AllName}
+use Rattle.items.specs.declared.items.Statement.{Statement}
+use Rattle.items.specs.Statements.{AllName}
 use Rattle.rules.specs.Derived.{derived}
 use Rattle.selections.specs.Listed.{Selections, Listed}
 use Rattle.selections.specs.Stands.{SelectionsStand}

@@ -5,8 +5,8 @@ use mathlib.Core.Bool.{Bool, true, false}
 use mathlib.Core.List.{List, [], _∷_, _++_}
 use mathlib.Core.Logic.{_↔_}
 use mathlib.Core.Path.{_≡_}
-use Rattle.sheet.specs.declared.items.Statement.{Statement}
-use Rattle.sheet.specs.Tests.{same, pick}
+use Rattle.fields.specs.Tests.{same, pick}
+use Rattle.items.specs.declared.items.Statement.{Statement}
 use Rattle.rules.specs.declared.clashes.Clash.{Clash}
 use Rattle.rules.specs.Stated.{ordering, compatibility, selection, labelling}
 use Rattle.rules.specs.Clashes.{clashes}

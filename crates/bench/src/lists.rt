@@ -2,7 +2,7 @@
 ghost use mathlib.Core.Bool.{true};
 ghost use mathlib.Core.Logic.{_↔_};
 ghost use mathlib.Core.Path.{_≡_};
-ghost use Rattle.sheet.specs.Tests.{less};
+ghost use Rattle.fields.specs.Tests.{less};
 ghost use Rattle.selections.specs.Listed.{Selections};
 ghost use Rattle.closure.specs.Stands.{Pairs};
 ghost use Rattle.bench.specs.Lists.{Below, Lawful};

@@ -7,7 +7,7 @@ use mathlib.Core.Logic.{_⊎_, inl, ⊎-elim}
 use mathlib.Core.Path.{_≡_, refl, sym, subst, _∙_}
 use native.Mathlib.Nat.{mul-le-mul}
 use native.Mathlib.Omega.{arith}
-use Rattle.sheet.specs.Tests.{less, same}
+use Rattle.fields.specs.Tests.{less, same}
 use Rattle.rules.specs.Connectives.{_or_}
 use Rattle.rules.specs.Facts.{Kind, ordered, compatible, Holds}
 use Rattle.rules.specs.Tables.{says, facts}

@@ -5,8 +5,8 @@ use mathlib.Core.Bool.{true, false}
 use mathlib.Core.List.{List}
 use mathlib.Core.Path.{_≡_, refl, sym, ap, subst, _∙_}
 use native.Mathlib.Omega.{arith}
-use Rattle.sheet.specs.Tests.{same, pick}
-use Rattle.sheet.proofs.Choice.{is-same, same-true}
+use Rattle.fields.specs.Tests.{same, pick}
+use Rattle.fields.proofs.Choice.{is-same, same-true}
 use Rattle.rules.specs.Facts.{Kind, Holds}
 use Rattle.rules.specs.Tables.{says, cellAt, facts, Shape}
 use Rattle.rules.proofs.Cells.{says-nothing}

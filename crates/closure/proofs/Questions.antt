@@ -5,11 +5,11 @@ use mathlib.Core.Bool.{Bool, true, false}
 use mathlib.Core.List.{List, List·Memᴰ·head}
 use mathlib.Core.Logic.{_⊎_, inl, inr}
 use mathlib.Core.Path.{_≡_, refl, sym, ap, _∙_}
-use Rattle.sheet.specs.declared.items.Statement.{Statement}
-use Rattle.sheet.specs.declared.numbers.Feature.{Feature}
-use Rattle.sheet.specs.declared.numbers.Label.{Label}
-use Rattle.sheet.specs.declared.numbers.Variable.{Variable}
-use Rattle.sheet.specs.Statements.{Names}
+use Rattle.fields.specs.declared.numbers.Feature.{Feature}
+use Rattle.fields.specs.declared.numbers.Label.{Label}
+use Rattle.fields.specs.declared.numbers.Variable.{Variable}
+use Rattle.items.specs.declared.items.Statement.{Statement}
+use Rattle.items.specs.Statements.{Names}
 use Rattle.rules.specs.declared.clashes.Clash.{Clash}
 use Rattle.rules.specs.Stated.{selection, labelling}
 use Rattle.rules.specs.Facts.{Kind, ordered, compatible, fact}
@@ -17,8 +17,8 @@ use Rattle.rules.specs.Tables.{facts}
 use Rattle.rules.specs.Clashes.{clashInRows, clashOf, isClash, clashes}
 use Rattle.rules.proofs.Lists.{all-with}
 use Rattle.facts.specs.Additions.{Said}
-use Rattle.facts.proofs.Sets.{among-none}
 use Rattle.facts.specs.Queue.{queueRoom}
+use Rattle.facts.proofs.Sets.{among-none}
 use Rattle.selections.specs.Groups.{Grouped}
 use Rattle.selections.specs.Stands.{Selected, SelectionsStand}
 use Rattle.selections.proofs.Stands.{ListedIn, one-listed, only-listed, both-selected, statement-selections}

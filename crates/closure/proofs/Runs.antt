@@ -5,8 +5,8 @@ use mathlib.Core.List.{List}
 use mathlib.Core.Logic.{_⊎_, inl, inr, ⊎-elim}
 use mathlib.Core.Path.{_≡_, sym, ap, _∙_}
 use native.Mathlib.Omega.{arith}
-use Rattle.sheet.specs.Tests.{same}
-use Rattle.sheet.proofs.Choice.{same-true, same-false}
+use Rattle.fields.specs.Tests.{same}
+use Rattle.fields.proofs.Choice.{same-true, same-false}
 use Rattle.rules.specs.Facts.{Kind, Relation, Holds, Within}
 use Rattle.rules.specs.Tables.{facts}
 use Rattle.rules.proofs.Logic.{decided}

@@ -6,9 +6,9 @@ use mathlib.Core.List.{List·Memᴰ·not-nil, List·Memᴰ·eq-of-singleton}
 use mathlib.Core.Logic.{⊎-elim}
 use mathlib.Core.Path.{_≡_, refl, subst}
 use native.Mathlib.Omega.{arith}
-use Rattle.sheet.specs.declared.items.Statement.{Statement}
-use Rattle.sheet.specs.Statements.{Names, AllName}
-use Rattle.sheet.specs.Tests.{less, same}
+use Rattle.fields.specs.Tests.{less, same}
+use Rattle.items.specs.declared.items.Statement.{Statement}
+use Rattle.items.specs.Statements.{Names, AllName}
 use Rattle.rules.specs.Connectives.{_or_}
 use Rattle.rules.specs.Stated.{ordering, compatibility}
 use Rattle.rules.specs.Facts.{Kind, ordered, compatible, fact}

@@ -4,8 +4,8 @@ use lib.ListN.{length}
 use mathlib.Core.Bool.{Bool}
 use mathlib.Core.List.{List, [], _∷_, _++_}
 use mathlib.Core.Path.{_≡_, sym, ap, _∙_}
-use Rattle.sheet.specs.declared.items.Statement.{Statement}
-use Rattle.sheet.specs.Statements.{Names, AllName}
+use Rattle.items.specs.declared.items.Statement.{Statement}
+use Rattle.items.specs.Statements.{Names, AllName}
 use Rattle.rules.specs.declared.clashes.Clash.{Clash}
 use Rattle.rules.specs.Facts.{Kind}
 use Rattle.rules.specs.Tables.{facts, countFacts}

@@ -5,8 +5,8 @@ use mathlib.Core.List.{List}
 use mathlib.Core.Logic.{_⊎_, inl, inr, ⊎-elim}
 use mathlib.Core.Path.{_≡_}
 use native.Mathlib.Omega.{arith}
-use Rattle.sheet.specs.Tests.{same}
-use Rattle.sheet.proofs.Choice.{same-true, same-false}
+use Rattle.fields.specs.Tests.{same}
+use Rattle.fields.proofs.Choice.{same-true, same-false}
 use Rattle.rules.specs.Facts.{Kind, Holds}
 use Rattle.rules.specs.Tables.{facts}
 use Rattle.rules.proofs.Logic.{decided}
@@ -16,8 +16,8 @@ use Rattle.facts.proofs.Moving.{ready-after, wider}
 use Rattle.selections.specs.declared.trial.Kept.{Kept}
 use Rattle.selections.specs.Groups.{Grouped, groupPlaces}
 use Rattle.selections.specs.Trial.{Put}
-use Rattle.selections.proofs.Theorems.{put-groups, put-each, put-no-other}
 use Rattle.selections.specs.Stands.{Selected}
+use Rattle.selections.proofs.Theorems.{put-groups, put-each, put-no-other}
 use Rattle.closure.specs.Settled.{Handed, Starting, Settled}
 use Rattle.closure.specs.Trials.{TryingSelection, Nothing, WithOne, before, last, Tries, Queueing, SubjectQueued}
 use Rattle.closure.proofs.Runs.{tail-bound}

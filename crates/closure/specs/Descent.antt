@@ -4,7 +4,7 @@ use lib.ListN.{getD}
 use mathlib.Core.Bool.{Bool, true, false}
 use mathlib.Core.List.{List}
 use mathlib.Core.Path.{_≡_}
-use Rattle.sheet.specs.Tests.{same, pick}
+use Rattle.fields.specs.Tests.{same, pick}
 use Rattle.rules.specs.Facts.{Kind, Holds}
 use Rattle.rules.specs.Tables.{cellAt, facts, Shape}
 use Rattle.facts.specs.Cells.{isLacking}

@@ -5,8 +5,8 @@ use lib.Seq.{getD-set-same, getD-set-other, ext-getD}
 use mathlib.Core.List.{List}
 use mathlib.Core.Path.{_≡_, sym, _∙_}
 use native.Mathlib.Omega.{arith}
-use Rattle.sheet.specs.Tests.{less}
-use Rattle.sheet.proofs.Choice.{less-true, less-false}
+use Rattle.fields.specs.Tests.{less}
+use Rattle.fields.proofs.Choice.{less-true, less-false}
 use Rattle.rules.proofs.Logic.{decided}
 
 -- each place below y has its value

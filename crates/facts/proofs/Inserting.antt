@@ -6,8 +6,8 @@ use mathlib.Core.List.{List}
 use mathlib.Core.Logic.{_⊎_, ⊎-elim}
 use mathlib.Core.Path.{_≡_, refl, sym, ap, subst, _∙_}
 use native.Mathlib.Omega.{arith}
-use Rattle.sheet.specs.Tests.{less, same, pick}
-use Rattle.sheet.proofs.Choice.{is-same, same-true, same-false, chosen, passed}
+use Rattle.fields.specs.Tests.{less, same, pick}
+use Rattle.fields.proofs.Choice.{is-same, same-true, same-false, chosen, passed}
 use Rattle.rules.specs.Connectives.{_or_}
 use Rattle.rules.specs.Facts.{Kind, ordered, compatible, Relation, Holds, Within}
 use Rattle.rules.specs.Tables.{says, cellAt, facts, Shape}

@@ -4,7 +4,7 @@ use lib.Bits.{bitOr}
 use mathlib.Core.Bool.{true, false}
 use mathlib.Core.Path.{_≡_, refl, sym, ap, _∙_}
 use native.Mathlib.Omega.{arith}
-use Rattle.sheet.specs.Tests.{less, same}
+use Rattle.fields.specs.Tests.{less, same}
 use Rattle.rules.specs.Connectives.{_or_}
 use Rattle.rules.specs.Facts.{Kind, ordered, compatible}
 use Rattle.rules.specs.Tables.{says}

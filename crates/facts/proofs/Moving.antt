@@ -6,8 +6,8 @@ use mathlib.Core.List.{List}
 use mathlib.Core.Logic.{_⊎_, inl, inr, ⊎-elim}
 use mathlib.Core.Path.{_≡_, refl, ap, _∙_}
 use native.Mathlib.Omega.{arith}
-use Rattle.sheet.specs.Tests.{less}
-use Rattle.sheet.proofs.Choice.{less-true, less-false}
+use Rattle.fields.specs.Tests.{less}
+use Rattle.fields.proofs.Choice.{less-true, less-false}
 use Rattle.rules.specs.Facts.{Kind, ordered, compatible, Holds, Within}
 use Rattle.rules.specs.Tables.{facts, Shape, countFacts}
 use Rattle.rules.proofs.Counts.{count-most, count-back, count-bound}

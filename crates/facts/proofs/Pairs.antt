@@ -5,7 +5,7 @@ use mathlib.Core.Bool.{true}
 use mathlib.Core.List.{List}
 use mathlib.Core.Path.{_≡_, ap, _∙_}
 use native.Mathlib.Omega.{arith}
-use Rattle.sheet.proofs.Choice.{is-less, less-true}
+use Rattle.fields.proofs.Choice.{is-less, less-true}
 use Rattle.rules.specs.Connectives.{_or_}
 use Rattle.rules.specs.Facts.{Kind, compatible}
 use Rattle.rules.specs.Tables.{says}

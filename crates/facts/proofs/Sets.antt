@@ -2,8 +2,8 @@
 use Prim.Native.Nat.{ℕ, _+_, _≤_}
 use mathlib.Core.Path.{_≡_, subst}
 use native.Mathlib.Omega.{arith}
-use Rattle.sheet.specs.Tests.{less}
-use Rattle.sheet.proofs.Choice.{less-true, less-false}
+use Rattle.fields.specs.Tests.{less}
+use Rattle.fields.proofs.Choice.{less-true, less-false}
 use Rattle.rules.specs.Facts.{Kind}
 use Rattle.rules.proofs.Logic.{decided}
 use Rattle.facts.specs.Additions.{Facts, Either, one, other, Among}

@@ -1,8 +1,8 @@
 -- Laws of `Steps`: nothing new, one set after another, and sets along a loop.
 use Prim.Native.Nat.{ℕ, _+_, _<_, _≤_}
 use native.Mathlib.Omega.{arith}
-use Rattle.sheet.specs.Tests.{less}
-use Rattle.sheet.proofs.Choice.{less-true, less-false}
+use Rattle.fields.specs.Tests.{less}
+use Rattle.fields.proofs.Choice.{less-true, less-false}
 use Rattle.rules.specs.Facts.{Kind, Holds}
 use Rattle.rules.specs.Tables.{facts, Shape}
 use Rattle.rules.proofs.Logic.{decided}

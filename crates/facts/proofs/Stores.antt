@@ -6,8 +6,8 @@ use mathlib.Core.List.{List}
 use mathlib.Core.Path.{_≡_, sym, ap, _∙_}
 use native.Mathlib.Nat.{suc-mul, mul-le-mul-right}
 use native.Mathlib.Omega.{arith}
-use Rattle.sheet.specs.Tests.{less, same}
-use Rattle.sheet.proofs.Choice.{less-true, less-false, same-true, same-false}
+use Rattle.fields.specs.Tests.{less, same}
+use Rattle.fields.proofs.Choice.{less-true, less-false, same-true, same-false}
 use Rattle.rules.specs.Tables.{cellAt, Shape}
 use Rattle.rules.proofs.Logic.{decided}
 use Rattle.facts.specs.Cells.{withCell}

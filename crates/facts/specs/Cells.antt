@@ -5,7 +5,7 @@ use lib.ListN.{length, set}
 use mathlib.Core.Bool.{Bool, not}
 use mathlib.Core.List.{List}
 use mathlib.Core.Path.{_≡_}
-use Rattle.sheet.specs.Tests.{same}
+use Rattle.fields.specs.Tests.{same}
 
 -- t is a table for n variables, and has a cell for i and j
 pub record Cell (n : ℕ) (t : List ℕ) (i j : ℕ) : Type 0 where

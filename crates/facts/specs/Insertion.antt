@@ -4,7 +4,7 @@ use lib.ListN.{getD}
 use mathlib.Core.Bool.{true}
 use mathlib.Core.List.{List}
 use mathlib.Core.Path.{_≡_}
-use Rattle.sheet.specs.Tests.{pick}
+use Rattle.fields.specs.Tests.{pick}
 use Rattle.rules.specs.Facts.{Kind, ordered, compatible}
 use Rattle.rules.specs.Tables.{says, cellAt, facts, Shape}
 use Rattle.facts.specs.Cells.{isLacking}

@@ -6,25 +6,25 @@ use mathlib.Core.List.{List, []}
 use mathlib.Core.Path.{_≡_, refl, ap, ap₂, _∙_}
 use borrow.Author.Tests.{ltb-true}
 use lib.Dec.{eqb, ltb, leb}
-use Rattle.sheet.specs.declared.headers.Header as H
-use Rattle.sheet.specs.declared.headers.HeaderRead.{HeaderRead}
-use Rattle.sheet.specs.declared.items.EndRead.{EndRead}
-use Rattle.sheet.specs.declared.items.Place.{Place}
-use Rattle.sheet.specs.declared.numbers.Cursor.{Cursor}
-use Rattle.sheet.specs.declared.refusals.Refusal.{Refusal}
+use Rattle.fields.specs.declared.numbers.Cursor.{Cursor}
+use Rattle.fields.specs.declared.refusals.Place.{Place}
+use Rattle.fields.specs.declared.refusals.Refusal.{Refusal}
+use Rattle.fields.specs.Fields.{cursor, thenWord}
+use Rattle.fields.specs.Refusals.{badHeaderMap, badVariableCount, remain, trailingRefusal}
+use Rattle.fields.specs.Tests.{less, same, has}
+use Rattle.fields.specs.Tests as Tests
+use Rattle.fields.proofs.Chains.{told}
+use Rattle.headers.specs.declared.headers.Header as H
+use Rattle.headers.specs.declared.headers.HeaderRead.{HeaderRead}
+use Rattle.headers.specs.Headers as Heads
+use Rattle.headers.specs.Headers.{thenHeader, headerOf, headerMap, variableCount, countIf}
+use Rattle.items.specs.declared.items.EndRead.{EndRead}
+use Rattle.items.specs.Items.{thenEnd, itemsEnd}
 use Rattle.sheet.specs.declared.whole.SheetRead.{SheetRead}
-use Rattle.sheet.specs.Fields.{cursor, thenWord}
-use Rattle.sheet.specs.Headers as Heads
-use Rattle.sheet.specs.Headers.{thenHeader, headerOf, headerMap, variableCount, countIf}
-use Rattle.sheet.specs.Items.{thenEnd, itemsEnd}
 use Rattle.sheet.specs.Parts as Parts
-use Rattle.sheet.specs.Refusals.{badHeaderMap, badVariableCount, remain, trailingRefusal}
 use Rattle.sheet.specs.Sheets as Read
 use Rattle.sheet.specs.Sheets.{thenSheet, bodyOf, sheetAt, sheetOf}
-use Rattle.sheet.specs.Tests.{less, same, has}
-use Rattle.sheet.specs.Tests as Tests
 use Rattle.sheet.proofs.Accepted.{sheet-spans}
-use Rattle.sheet.proofs.Chains.{told}
 use Rattle.origin.specs.Sheets.{pick, byteAt, Got, bad, Header, readHeader, recordPart, questionPart}
 use Rattle.origin.specs.Sheets.{recordsFrom, readSheet, recordBytesFrom, recordBytes}
 use Rattle.origin.specs.Converted.{asHeader, asGot, badGot}

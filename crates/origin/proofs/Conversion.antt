@@ -5,9 +5,9 @@ use mathlib.Core.Path.{_≡_, refl, ap}
 use borrow.Author.Tests.{leb-true, ne-eqb}
 use lib.Dec.{eqb, leb}
 use native.Mathlib.Omega.{arith}
-use Rattle.sheet.specs.declared.items.Statement as S
-use Rattle.sheet.specs.declared.refusals.Fault.{Fault}
-use Rattle.sheet.specs.Refusals.{numberOf}
+use Rattle.fields.specs.declared.refusals.Fault.{Fault}
+use Rattle.fields.specs.Refusals.{numberOf}
+use Rattle.items.specs.declared.items.Statement as S
 use Rattle.origin.specs.Converted.{asStatement}
 use Rattle.origin.specs.Sheets.{Statement}
 

@@ -7,16 +7,16 @@ use lib.Dec.{ltb}
 use lib.ListN.{getD}
 use native.Mathlib.Nat.{mul-comm}
 use native.Mathlib.Numerals.{add-one}
-use Rattle.sheet.specs.declared.fields.VariableRead.{VariableRead}
-use Rattle.sheet.specs.declared.fields.WordRead.{WordRead}
-use Rattle.sheet.specs.declared.numbers.Cursor.{Cursor}
-use Rattle.sheet.specs.declared.numbers.Variable.{Variable}
-use Rattle.sheet.specs.declared.refusals.Refusal.{Refusal}
-use Rattle.sheet.specs.Fields.{cursor, variable, variableIs, wordIs, word, judged, byteField, wordField, variableField}
-use Rattle.sheet.specs.Fields.{thenByte, thenWord, thenVariable}
-use Rattle.sheet.specs.Headers.{countField, countIf}
-use Rattle.sheet.specs.Refusals.{cut, ends, badCount, countRefusal, badVariable, variableRefusal}
-use Rattle.sheet.specs.Tests.{pick, less}
+use Rattle.fields.specs.declared.fields.VariableRead.{VariableRead}
+use Rattle.fields.specs.declared.fields.WordRead.{WordRead}
+use Rattle.fields.specs.declared.numbers.Cursor.{Cursor}
+use Rattle.fields.specs.declared.numbers.Variable.{Variable}
+use Rattle.fields.specs.declared.refusals.Refusal.{Refusal}
+use Rattle.fields.specs.Fields.{cursor, variable, variableIs, wordIs, word, judged, byteField, wordField, variableField}
+use Rattle.fields.specs.Fields.{thenByte, thenWord, thenVariable}
+use Rattle.fields.specs.Refusals.{cut, ends, badCount, countRefusal, badVariable, variableRefusal}
+use Rattle.fields.specs.Tests.{pick, less}
+use Rattle.headers.specs.Headers.{countField, countIf}
 use Rattle.origin.specs.Sheets.{byteAt, wordAt, cut as is-cut}
 
 -- x is what f makes of the answer; shut, so that both are found in it

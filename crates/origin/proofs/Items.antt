@@ -5,15 +5,15 @@ use mathlib.Core.Path.{_≡_, refl}
 use lib.Dec.{ltb}
 use native.Mathlib.Numerals.{add-one}
 use native.Mathlib.Omega.{arith}
-use Rattle.sheet.specs.declared.items.ItemRead.{ItemRead}
-use Rattle.sheet.specs.declared.items.Place.{Place}
-use Rattle.sheet.specs.declared.items.Statement as S
-use Rattle.sheet.specs.declared.numbers.Cursor.{Cursor}
-use Rattle.sheet.specs.Fields.{cursor, variable, thenVariable, variableField}
-use Rattle.sheet.specs.Items as Read
-use Rattle.sheet.specs.Refusals.{badItemMap, severalBits}
-use Rattle.sheet.specs.Statements.{statementsOf}
-use Rattle.sheet.specs.Tests.{less, same, has}
+use Rattle.fields.specs.declared.numbers.Cursor.{Cursor}
+use Rattle.fields.specs.declared.refusals.Place.{Place}
+use Rattle.fields.specs.Fields.{cursor, variable, thenVariable, variableField}
+use Rattle.fields.specs.Refusals.{badItemMap, severalBits}
+use Rattle.fields.specs.Tests.{less, same, has}
+use Rattle.items.specs.declared.items.ItemRead.{ItemRead}
+use Rattle.items.specs.declared.items.Statement as S
+use Rattle.items.specs.Items as Read
+use Rattle.items.specs.Statements.{statementsOf}
 use Rattle.origin.specs.Sheets.{Item, item, bit, byteAt, cut as is-cut, cutItem, itemAt}
 use Rattle.origin.specs.Sheets.{varStep, childStep, labelStep}
 use Rattle.origin.specs.Converted.{asItem, asks}

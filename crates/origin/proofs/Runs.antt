@@ -6,21 +6,21 @@ use mathlib.Core.Path.{_≡_, refl, ap, _∙_}
 use lib.Dec.{eqb}
 use lib.ListN.{take, drop}
 use native.Mathlib.Omega.{arith}
-use Rattle.sheet.specs.declared.items.EndRead.{EndRead}
-use Rattle.sheet.specs.declared.items.ItemRead.{ItemRead}
-use Rattle.sheet.specs.declared.items.Place.{Place}
-use Rattle.sheet.specs.declared.numbers.Cursor.{Cursor}
-use Rattle.sheet.specs.declared.refusals.Refusal.{Refusal}
-use Rattle.sheet.specs.Items as Read
-use Rattle.sheet.specs.Items.{thenItem, thenEnd, itemsEnd, itemsOf}
-use Rattle.sheet.specs.Refusals.{remain, trailingRefusal}
+use Rattle.fields.specs.declared.numbers.Cursor.{Cursor}
+use Rattle.fields.specs.declared.refusals.Place.{Place}
+use Rattle.fields.specs.declared.refusals.Refusal.{Refusal}
+use Rattle.fields.specs.Refusals.{remain, trailingRefusal}
+use Rattle.fields.specs.Tests.{pick, less}
+use Rattle.fields.proofs.Chains.{told}
+use Rattle.items.specs.declared.items.EndRead.{EndRead}
+use Rattle.items.specs.declared.items.ItemRead.{ItemRead}
+use Rattle.items.specs.Items as Read
+use Rattle.items.specs.Items.{thenItem, thenEnd, itemsEnd, itemsOf}
+use Rattle.items.specs.Statements.{statementsOf, questionOf}
+use Rattle.items.proofs.Lawful.{item-spans}
+use Rattle.items.proofs.Runs.{run-next}
 use Rattle.sheet.specs.Sheets.{allStatements}
-use Rattle.sheet.specs.Statements.{statementsOf, questionOf}
-use Rattle.sheet.specs.Tests.{pick, less}
-use Rattle.sheet.proofs.Chains.{told}
-use Rattle.sheet.proofs.Lawful.{item-spans}
 use Rattle.sheet.proofs.Named.{question-alone}
-use Rattle.sheet.proofs.Runs.{run-next}
 use Rattle.origin.specs.Sheets.{Statement, joinS, Got, got, bad, sheet, Item}
 use Rattle.origin.specs.Sheets.{questionsFrom, recordsFrom, recordBytesFrom}
 use Rattle.origin.specs.Converted.{asStatement, badItem, asItem, badGot}

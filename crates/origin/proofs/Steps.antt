@@ -4,15 +4,15 @@ use mathlib.Core.Bool.{Bool, true, false}
 use mathlib.Core.List.{List, [], _∷_, _++_, map, append-nil}
 use mathlib.Core.Path.{_≡_, refl, ap}
 use native.Mathlib.Omega.{arith}
-use Rattle.sheet.specs.declared.items.ItemRead.{ItemRead}
-use Rattle.sheet.specs.declared.items.Statement as S
-use Rattle.sheet.specs.declared.numbers.Cursor.{Cursor}
-use Rattle.sheet.specs.declared.numbers.Variable.{Variable}
-use Rattle.sheet.specs.declared.refusals.Refusal.{Refusal}
-use Rattle.sheet.specs.Fields.{cursor, variable, thenVariable, thenWord, wordIf, variableIf}
-use Rattle.sheet.specs.Refusals.{cut, variableRefusal}
-use Rattle.sheet.specs.Statements.{statedIf}
-use Rattle.sheet.specs.Tests.{pick}
+use Rattle.fields.specs.declared.numbers.Cursor.{Cursor}
+use Rattle.fields.specs.declared.numbers.Variable.{Variable}
+use Rattle.fields.specs.declared.refusals.Refusal.{Refusal}
+use Rattle.fields.specs.Fields.{cursor, variable, thenVariable, thenWord, wordIf, variableIf}
+use Rattle.fields.specs.Refusals.{cut, variableRefusal}
+use Rattle.fields.specs.Tests.{pick}
+use Rattle.items.specs.declared.items.ItemRead.{ItemRead}
+use Rattle.items.specs.declared.items.Statement as S
+use Rattle.items.specs.Statements.{statedIf}
 use Rattle.origin.specs.Sheets.{Statement, statement, addS, Item, item, byteAt, wordAt}
 use Rattle.origin.specs.Sheets.{varStep, childStep, labelStep}
 use Rattle.origin.specs.Converted.{asStatement, badItem, asItem}

@@ -1,15 +1,15 @@
 -- What the crate sheet answers, in the terms of the first statement of the format.
 use mathlib.Core.Bool.{Bool, true, false}
 use mathlib.Core.List.{[], map}
-use Rattle.sheet.specs.declared.headers.HeaderRead.{HeaderRead}
-use Rattle.sheet.specs.declared.items.ItemRead.{ItemRead}
-use Rattle.sheet.specs.declared.items.Place.{Place}
-use Rattle.sheet.specs.declared.items.Statement as S
-use Rattle.sheet.specs.declared.refusals.Refusal.{Refusal}
+use Rattle.fields.specs.declared.refusals.Place.{Place}
+use Rattle.fields.specs.declared.refusals.Refusal.{Refusal}
+use Rattle.fields.specs.Refusals.{numberOf}
+use Rattle.headers.specs.declared.headers.HeaderRead.{HeaderRead}
+use Rattle.items.specs.declared.items.ItemRead.{ItemRead}
+use Rattle.items.specs.declared.items.Statement as S
+use Rattle.items.specs.Statements.{statementsOf}
 use Rattle.sheet.specs.declared.whole.SheetRead.{SheetRead}
-use Rattle.sheet.specs.Refusals.{numberOf}
 use Rattle.sheet.specs.Sheets as Read
-use Rattle.sheet.specs.Statements.{statementsOf}
 use Rattle.origin.specs.Sheets.{Statement, statement, Item, item, Sheet, sheet, Got, got, bad}
 use Rattle.origin.specs.Sheets.{Header, header, badHeader}
 

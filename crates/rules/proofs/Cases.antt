@@ -1,11 +1,11 @@
 -- The worked cases hold: for the bytes of each row the definitions give that row.
 use mathlib.Core.Path.{refl}
-use Rattle.sheet.specs.Tests as Tests
-use Rattle.sheet.specs.Refusals as Refusals
-use Rattle.sheet.specs.Fields as Fields
-use Rattle.sheet.specs.Headers as Headers
-use Rattle.sheet.specs.Items as Items
-use Rattle.sheet.specs.Statements as Statements
+use Rattle.fields.specs.Tests as Tests
+use Rattle.fields.specs.Refusals as Refusals
+use Rattle.fields.specs.Fields as Fields
+use Rattle.headers.specs.Headers as Headers
+use Rattle.items.specs.Items as Items
+use Rattle.items.specs.Statements as Statements
 use Rattle.sheet.specs.Sheets as Sheets
 use Rattle.rules.specs.Connectives.{_and_, _or_}
 use Rattle.rules.specs.Stated as Stated

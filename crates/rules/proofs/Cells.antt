@@ -3,7 +3,7 @@ use Prim.Native.Nat.{ℕ, zero, suc, _<_}
 use mathlib.Core.Bool.{Bool, true, false}
 use mathlib.Core.Path.{_≡_, refl, sym, ap₂, _∙_}
 use native.Mathlib.Omega.{arith}
-use Rattle.sheet.specs.Tests.{less, same, pick}
+use Rattle.fields.specs.Tests.{less, same, pick}
 use Rattle.rules.specs.Connectives.{_or_}
 use Rattle.rules.specs.Facts.{Kind, ordered, compatible}
 use Rattle.rules.specs.Tables.{says, cellOf}

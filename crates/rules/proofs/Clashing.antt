@@ -6,10 +6,10 @@ use mathlib.Core.Logic.{_↔_}
 use mathlib.Core.Path.{_≡_, refl, sym, ap, ap₂, subst}
 use borrow.Author.Tests.{not-true}
 use native.Mathlib.Omega.{arith}
-use Rattle.sheet.specs.declared.items.Statement.{Statement}
-use Rattle.sheet.specs.Fields.{variable}
-use Rattle.sheet.specs.Tests.{less, same, pick}
-use Rattle.sheet.proofs.Choice.{is-same, not-same, same-true, same-false, less-true, less-false}
+use Rattle.fields.specs.Fields.{variable}
+use Rattle.fields.specs.Tests.{less, same, pick}
+use Rattle.fields.proofs.Choice.{is-same, not-same, same-true, same-false, less-true, less-false}
+use Rattle.items.specs.declared.items.Statement.{Statement}
 use Rattle.rules.specs.declared.clashes.Clash.{Clash}
 use Rattle.rules.specs.Stated.{labelling, Stated}
 use Rattle.rules.specs.Facts.{Relation}

@@ -4,8 +4,8 @@ use mathlib.Core.Bool.{Bool, true, false}
 use mathlib.Core.Path.{_≡_, refl, ap}
 use native.Mathlib.Nat.{suc-mul}
 use native.Mathlib.Omega.{arith}
-use Rattle.sheet.specs.Tests.{pick}
-use Rattle.sheet.proofs.Choice.{pick-most}
+use Rattle.fields.specs.Tests.{pick}
+use Rattle.fields.proofs.Choice.{pick-most}
 use Rattle.rules.specs.Facts.{Kind, Relation, Holds, Within}
 use Rattle.rules.specs.Tables.{countPassing, countRow, countRows, countFacts}
 use Rattle.rules.proofs.Logic.{last-or-before}

@@ -2,10 +2,10 @@
 use mathlib.Core.Bool.{Bool, true, false}
 use mathlib.Core.Logic.{_↔_}
 use mathlib.Core.Path.{_≡_, refl}
-use Rattle.sheet.specs.declared.items.Statement.{Statement}
+use Rattle.fields.specs.Tests.{pick}
+use Rattle.items.specs.declared.items.Statement.{Statement}
+use Rattle.items.specs.Statements.{AllName}
 use Rattle.sheet.specs.Sheets.{Sheet}
-use Rattle.sheet.specs.Statements.{AllName}
-use Rattle.sheet.specs.Tests.{pick}
 use Rattle.rules.specs.declared.replies.Reply.{Reply}
 use Rattle.rules.specs.Replies.{replyTo}
 use Rattle.rules.specs.Demand.{Replied, Demand-2, Smallest}

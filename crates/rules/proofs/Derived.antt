@@ -3,8 +3,8 @@ use Prim.Native.Nat.{ℕ, _*_}
 use mathlib.Core.List.{List}
 use mathlib.Core.Path.{_≡_}
 use native.Mathlib.Omega.{arith}
-use Rattle.sheet.specs.declared.items.Statement.{Statement}
-use Rattle.sheet.specs.Statements.{AllName}
+use Rattle.items.specs.declared.items.Statement.{Statement}
+use Rattle.items.specs.Statements.{AllName}
 use Rattle.rules.specs.Facts.{Kind, Holds, Into, Within, Closed}
 use Rattle.rules.specs.Tables.{facts, Shape}
 use Rattle.rules.specs.Derived.{nextTable, derived, factsOf}

@@ -4,9 +4,9 @@ use mathlib.Core.Bool.{Bool, true, false}
 use mathlib.Core.List.{List, [], _∷_, List·Memᴰ·head, List·Memᴰ·tail}
 use mathlib.Core.Option.{Option, none, some, Option·none-ne-some, Option·some-injective}
 use mathlib.Core.Path.{_≡_, refl, sym, ap, subst, _∙_}
-use Rattle.sheet.specs.declared.items.Statement.{Statement}
-use Rattle.sheet.specs.Tests.{same, pick}
-use Rattle.sheet.proofs.Choice.{is-same, same-true, chosen, passed}
+use Rattle.fields.specs.Tests.{same, pick}
+use Rattle.fields.proofs.Choice.{is-same, same-true, chosen, passed}
+use Rattle.items.specs.declared.items.Statement.{Statement}
 use Rattle.rules.specs.Stated.{labelling, Stated, firstLabel}
 use Rattle.rules.specs.Replies.{statedLabel}
 use Rattle.rules.proofs.Logic.{decided}

@@ -3,8 +3,8 @@ use Prim.Native.Nat.{ℕ, _<_, _≤_}
 use mathlib.Core.List.{List, [], _∷_, _++_, List·Memᴰ·head, List·Memᴰ·tail}
 use mathlib.Core.Path.{refl, sym, subst}
 use native.Mathlib.Omega.{arith}
-use Rattle.sheet.specs.declared.items.Statement.{Statement}
-use Rattle.sheet.specs.Statements.{All, Names, AllName}
+use Rattle.items.specs.declared.items.Statement.{Statement}
+use Rattle.items.specs.Statements.{All, Names, AllName}
 use Rattle.rules.specs.Facts.{Kind, ordered, compatible, fact}
 use Rattle.rules.specs.Stated.{Stated}
 

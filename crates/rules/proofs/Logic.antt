@@ -3,8 +3,8 @@ use Prim.Native.Nat.{ℕ, suc, _<_}
 use mathlib.Core.Bool.{Bool, true, false, true≢false, false≢true}
 use mathlib.Core.Path.{_≡_, refl, sym, _∙_}
 use native.Mathlib.Omega.{arith}
-use Rattle.sheet.specs.Tests.{same}
-use Rattle.sheet.proofs.Choice.{same-true, same-false}
+use Rattle.fields.specs.Tests.{same}
+use Rattle.fields.proofs.Choice.{same-true, same-false}
 use Rattle.rules.specs.Connectives.{_and_, _or_}
 
 pub both : {a b : Bool} → a ≡ true → b ≡ true → a and b ≡ true

@@ -3,9 +3,9 @@ use Prim.Native.Nat.{ℕ, _<_}
 use mathlib.Core.Bool.{true, false≢true}
 use mathlib.Core.List.{List}
 use mathlib.Core.Path.{_≡_, refl}
-use Rattle.sheet.specs.declared.items.Statement.{Statement}
-use Rattle.sheet.specs.Tests.{same}
-use Rattle.sheet.proofs.Choice.{is-same, same-true}
+use Rattle.fields.specs.Tests.{same}
+use Rattle.fields.proofs.Choice.{is-same, same-true}
+use Rattle.items.specs.declared.items.Statement.{Statement}
 use Rattle.rules.specs.Connectives.{_and_, _or_}
 use Rattle.rules.specs.Stated.{selection, Stated}
 use Rattle.rules.specs.Facts.{Kind, ordered, compatible, fact, Relation, Holds, Into, Closed}

@@ -4,9 +4,9 @@ use mathlib.Core.Bool.{Bool, true, false≢true}
 use mathlib.Core.List.{List, [], _∷_, List·Memᴰ, List·Memᴰ·head, List·Memᴰ·tail}
 use mathlib.Core.Path.{_≡_, refl, ap, sym, subst, _∙_}
 use native.Mathlib.Omega.{arith}
-use Rattle.sheet.specs.declared.items.Statement.{Statement}
-use Rattle.sheet.specs.Tests.{same}
-use Rattle.sheet.proofs.Choice.{is-same, same-true}
+use Rattle.fields.specs.Tests.{same}
+use Rattle.fields.proofs.Choice.{is-same, same-true}
+use Rattle.items.specs.declared.items.Statement.{Statement}
 use Rattle.rules.specs.Connectives.{_and_}
 use Rattle.rules.specs.Stated.{ordering, compatibility, selection, labelling, Stated, any, anyBelow, ifOrdering}
 use Rattle.rules.specs.Stated.{ifCompatibility, ifSelection, ifLabelling, someOrdering, someCompatibility}

@@ -3,9 +3,9 @@ use Prim.Native.Nat.{ℕ, _<_}
 use mathlib.Core.Bool.{true}
 use mathlib.Core.List.{List}
 use mathlib.Core.Path.{_≡_, refl, sym, subst}
-use Rattle.sheet.specs.declared.items.Statement.{Statement}
-use Rattle.sheet.specs.Statements.{Names}
-use Rattle.sheet.proofs.Choice.{is-same, same-true}
+use Rattle.fields.proofs.Choice.{is-same, same-true}
+use Rattle.items.specs.declared.items.Statement.{Statement}
+use Rattle.items.specs.Statements.{Names}
 use Rattle.rules.specs.Stated.{selection, labelling, Stated}
 use Rattle.rules.specs.Facts.{Kind, ordered, compatible, Relation, Holds}
 use Rattle.rules.specs.Support.{underChild, overChild, underLabel, supported}

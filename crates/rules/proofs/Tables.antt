@@ -6,8 +6,8 @@ use lib.ListN.{length, getD, replicate, length-append, length-replicate, getD-re
 use lib.Seq.{getD-append-add, ext-getD}
 use native.Mathlib.Nat.{suc-mul, zero-mul, div-add-mod', mod-lt, div-lt-iff-lt-mul, mul-le-mul-right}
 use native.Mathlib.Omega.{arith}
-use Rattle.sheet.specs.Tests.{less}
-use Rattle.sheet.proofs.Choice.{is-less, less-true}
+use Rattle.fields.specs.Tests.{less}
+use Rattle.fields.proofs.Choice.{is-less, less-true}
 use Rattle.rules.specs.Connectives.{_and_}
 use Rattle.rules.specs.Facts.{Kind, ordered, compatible, Relation, Holds}
 use Rattle.rules.specs.Tables.{says, cellOf, cellAt, facts, rowOf, rowsOf, tableOf, Shape}

@@ -2,9 +2,9 @@
 use Prim.Native.Nat.{ℕ, zero, suc}
 use mathlib.Core.Bool.{Bool, true, false, not}
 use mathlib.Core.List.{List}
-use Rattle.sheet.specs.declared.items.Statement.{Statement}
-use Rattle.sheet.specs.Fields.{variable}
-use Rattle.sheet.specs.Tests.{same, pick}
+use Rattle.fields.specs.Fields.{variable}
+use Rattle.fields.specs.Tests.{same, pick}
+use Rattle.items.specs.declared.items.Statement.{Statement}
 use Rattle.rules.specs.declared.clashes.Clash.{Clash}
 use Rattle.rules.specs.Connectives.{_and_}
 use Rattle.rules.specs.Stated.{someLabelling}

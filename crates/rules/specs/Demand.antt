@@ -5,8 +5,8 @@ use mathlib.Core.Bool.{true, false}
 use mathlib.Core.List.{List}
 use mathlib.Core.Logic.{_↔_}
 use mathlib.Core.Path.{_≡_}
-use Rattle.sheet.specs.declared.items.Statement.{Statement}
-use Rattle.sheet.specs.Fields.{variable}
+use Rattle.fields.specs.Fields.{variable}
+use Rattle.items.specs.declared.items.Statement.{Statement}
 use Rattle.sheet.specs.Sheets.{Sheet}
 use Rattle.rules.specs.declared.clashes.Clash.{Clash}
 use Rattle.rules.specs.declared.replies.Reply.{Reply}

@@ -3,8 +3,8 @@ use Prim.Native.Nat.{ℕ, zero, suc, _*_}
 use mathlib.Core.Bool.{false}
 use mathlib.Core.List.{List}
 use lib.ListN.{replicate}
-use Rattle.sheet.specs.declared.items.Statement.{Statement}
-use Rattle.sheet.specs.Tests.{same}
+use Rattle.fields.specs.Tests.{same}
+use Rattle.items.specs.declared.items.Statement.{Statement}
 use Rattle.rules.specs.Connectives.{_and_, _or_}
 use Rattle.rules.specs.Stated.{anyBelow, someOrdering, someCompatibility, someSelection}
 use Rattle.rules.specs.Facts.{ordered, compatible, Relation}

@@ -3,9 +3,9 @@ use Prim.Native.Nat.{ℕ}
 use mathlib.Core.Bool.{Bool}
 use mathlib.Core.List.{List, [], _∷_, _++_, map}
 use mathlib.Core.Option.{Option}
-use Rattle.sheet.specs.declared.items.Statement.{Statement}
+use Rattle.fields.specs.Tests.{same, pick}
+use Rattle.items.specs.declared.items.Statement.{Statement}
 use Rattle.sheet.specs.Sheets.{Sheet}
-use Rattle.sheet.specs.Tests.{same, pick}
 use Rattle.rules.specs.declared.replies.Reply.{Reply}
 use Rattle.rules.specs.Stated.{firstLabel}
 use Rattle.rules.specs.Derived.{factsOf}

@@ -3,9 +3,9 @@ use Prim.Native.Nat.{ℕ, zero, suc}
 use mathlib.Core.Bool.{Bool, false}
 use mathlib.Core.List.{List, [], _∷_, List·Memᴰ}
 use mathlib.Core.Option.{Option, none, some}
-use Rattle.sheet.specs.declared.items.Statement.{Statement}
-use Rattle.sheet.specs.Fields.{variable, feature, label}
-use Rattle.sheet.specs.Tests.{pick}
+use Rattle.fields.specs.Fields.{variable, feature, label}
+use Rattle.fields.specs.Tests.{pick}
+use Rattle.items.specs.declared.items.Statement.{Statement}
 use Rattle.rules.specs.Connectives.{_or_}
 
 -- i ≤ j

@@ -4,7 +4,7 @@ use mathlib.Core.Bool.{Bool}
 use mathlib.Core.List.{List, [], _∷_, _++_}
 use mathlib.Core.Path.{_≡_}
 use lib.ListN.{length, getD}
-use Rattle.sheet.specs.Tests.{less, same, pick}
+use Rattle.fields.specs.Tests.{less, same, pick}
 use Rattle.rules.specs.Connectives.{_and_, _or_}
 use Rattle.rules.specs.Facts.{Kind, ordered, compatible, Relation}
 

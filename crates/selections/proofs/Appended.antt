@@ -5,9 +5,9 @@ use lib.Seq.{getD-append-add}
 use mathlib.Core.List.{List, [], _∷_, _++_}
 use mathlib.Core.Path.{_≡_, refl}
 use native.Mathlib.Omega.{arith}
-use Rattle.sheet.specs.declared.items.Statement.{Statement}
-use Rattle.sheet.specs.Tests.{less}
-use Rattle.sheet.proofs.Choice.{less-true, less-false}
+use Rattle.fields.specs.Tests.{less}
+use Rattle.fields.proofs.Choice.{less-true, less-false}
+use Rattle.items.specs.declared.items.Statement.{Statement}
 use Rattle.rules.proofs.Logic.{decided}
 
 -- a list made of the entries of each statement

@@ -6,8 +6,8 @@ use mathlib.Core.List.{List·Memᴰ·not-nil, List·Memᴰ·eq-of-singleton}
 use mathlib.Core.Logic.{_⊎_, inl, inr, ⊎-elim}
 use mathlib.Core.Path.{_≡_, refl, subst}
 use native.Mathlib.Omega.{arith}
-use Rattle.sheet.specs.declared.items.Statement.{Statement}
-use Rattle.sheet.specs.Statements.{Names, AllName}
+use Rattle.items.specs.declared.items.Statement.{Statement}
+use Rattle.items.specs.Statements.{Names, AllName}
 use Rattle.rules.specs.Stated.{selection}
 use Rattle.selections.specs.Listed.{Selections, Listed}
 use Rattle.selections.specs.Stands.{Selected, SelectionsStand}

@@ -5,20 +5,21 @@ use mathlib.Core.List.{List}
 use mathlib.Core.Path.{_≡_}
 use lib.ListN.{length}
 use native.Mathlib.Omega.{arith}
-use Rattle.sheet.specs.declared.headers.Header.{Header}
-use Rattle.sheet.specs.declared.headers.HeaderRead.{HeaderRead}
-use Rattle.sheet.specs.declared.items.EndRead.{EndRead}
-use Rattle.sheet.specs.declared.items.Place.{Place}
-use Rattle.sheet.specs.declared.numbers.Cursor.{Cursor}
+use Rattle.fields.specs.declared.numbers.Cursor.{Cursor}
+use Rattle.fields.specs.declared.refusals.Place.{Place}
+use Rattle.fields.specs.Refusals.{remain}
+use Rattle.fields.proofs.Chains.{Of, known, either}
+use Rattle.fields.proofs.Choice.{less-false}
+use Rattle.headers.specs.declared.headers.Header.{Header}
+use Rattle.headers.specs.declared.headers.HeaderRead.{HeaderRead}
+use Rattle.headers.specs.Headers.{headerOf}
+use Rattle.headers.proofs.Heads.{Heads, header-spans, after-header}
+use Rattle.items.specs.declared.items.EndRead.{EndRead}
+use Rattle.items.specs.Items.{itemsEnd}
+use Rattle.items.proofs.Chains.{after-end}
+use Rattle.items.proofs.Runs.{run-spans}
 use Rattle.sheet.specs.declared.whole.SheetRead.{SheetRead}
-use Rattle.sheet.specs.Headers.{headerOf}
-use Rattle.sheet.specs.Items.{itemsEnd}
-use Rattle.sheet.specs.Refusals.{remain}
 use Rattle.sheet.specs.Sheets.{bodyOf, readSheet, longest}
-use Rattle.sheet.proofs.Chains.{Of, known, either, after-header, after-end}
-use Rattle.sheet.proofs.Choice.{less-false}
-use Rattle.sheet.proofs.Heads.{Heads, header-spans}
-use Rattle.sheet.proofs.Runs.{run-spans}
 
 pub record Accepts (s : List ℕ) (h : Header) (asked : Cursor) : Type 0 where
   pub heads : Heads s h

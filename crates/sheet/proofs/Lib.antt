@@ -1,11 +1,4 @@
--- Laws that belong to no one function, from tests up to the whole sheet.
-pub mod Choice
-pub mod Judged
-pub mod Chains
-pub mod Extents
-pub mod Lawful
-pub mod Runs
-pub mod Heads
+-- Laws of the whole sheet that belong to no one function.
 pub mod Accepted
 pub mod Named
 pub mod Longest

@@ -6,26 +6,26 @@ use mathlib.Core.Path.{_≡_, refl, sym, ap, _∙_}
 use lib.ListN.{length, getD}
 use native.Mathlib.Nat.{suc-mul}
 use native.Mathlib.Omega.{arith}
-use Rattle.sheet.specs.declared.fields.VariableRead.{VariableRead}
-use Rattle.sheet.specs.declared.fields.WordRead.{WordRead}
-use Rattle.sheet.specs.declared.headers.HeaderRead.{HeaderRead}
-use Rattle.sheet.specs.declared.items.EndRead.{EndRead}
-use Rattle.sheet.specs.declared.items.Item.{Item}
-use Rattle.sheet.specs.declared.items.ItemRead.{ItemRead}
-use Rattle.sheet.specs.declared.items.Place.{Place}
-use Rattle.sheet.specs.declared.numbers.Cursor.{Cursor}
-use Rattle.sheet.specs.declared.numbers.Variable.{Variable}
+use Rattle.fields.specs.declared.fields.VariableRead.{VariableRead}
+use Rattle.fields.specs.declared.fields.WordRead.{WordRead}
+use Rattle.fields.specs.declared.numbers.Cursor.{Cursor}
+use Rattle.fields.specs.declared.numbers.Variable.{Variable}
+use Rattle.fields.specs.declared.refusals.Place.{Place}
+use Rattle.fields.specs.Fields.{cursor, word, byteField, wordField, variableField, wordIf, variableIf}
+use Rattle.fields.specs.Refusals.{ends, badHeaderMap, badVariableCount, badCount, badItemMap, severalBits}
+use Rattle.fields.specs.Refusals.{badVariable, remain}
+use Rattle.fields.specs.Tests.{less, same, pick, has}
+use Rattle.fields.proofs.Chains.{Of, told, either, after-word, after-variable}
+use Rattle.fields.proofs.Choice.{chosen, passed, is-less, not-less, is-same, less-true}
+use Rattle.headers.specs.declared.headers.HeaderRead.{HeaderRead}
+use Rattle.headers.specs.Headers.{header, headerMap, variableCount, countField, countIf, headerOf}
+use Rattle.items.specs.declared.items.EndRead.{EndRead}
+use Rattle.items.specs.declared.items.Item.{Item}
+use Rattle.items.specs.declared.items.ItemRead.{ItemRead}
+use Rattle.items.specs.Items.{mapField, fieldsAt, itemAt, itemsEnd, fieldsWidth, width}
+use Rattle.items.proofs.Lawful.{item-spans}
 use Rattle.sheet.specs.declared.whole.SheetRead.{SheetRead}
-use Rattle.sheet.specs.Fields.{cursor, word, byteField, wordField, variableField, wordIf, variableIf}
-use Rattle.sheet.specs.Headers.{header, headerMap, variableCount, countField, countIf, headerOf}
-use Rattle.sheet.specs.Items.{mapField, fieldsAt, itemAt, itemsEnd, fieldsWidth, width}
-use Rattle.sheet.specs.Refusals.{ends, badHeaderMap, badVariableCount, badCount, badItemMap, severalBits}
-use Rattle.sheet.specs.Refusals.{badVariable, remain}
 use Rattle.sheet.specs.Sheets.{bodyOf, readSheet, longest}
-use Rattle.sheet.specs.Tests.{less, same, pick, has}
-use Rattle.sheet.proofs.Chains.{Of, told, either, after-word, after-variable}
-use Rattle.sheet.proofs.Choice.{chosen, passed, is-less, not-less, is-same, less-true}
-use Rattle.sheet.proofs.Lawful.{item-spans}
 
 -- so many values of f, from i on
 tabled : (ℕ → ℕ) → ℕ → ℕ → List ℕ

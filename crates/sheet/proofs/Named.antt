@@ -3,17 +3,18 @@ use Prim.Native.Nat.{ℕ, zero, suc}
 use mathlib.Core.Bool.{Bool, true, false}
 use mathlib.Core.List.{List, [], _∷_, _++_, map}
 use mathlib.Core.Path.{_≡_, refl}
-use Rattle.sheet.specs.declared.items.Item.{Item}
-use Rattle.sheet.specs.declared.items.Place.{Place}
-use Rattle.sheet.specs.declared.items.Statement.{Statement}
-use Rattle.sheet.specs.declared.numbers.Cursor.{Cursor}
+use Rattle.fields.specs.declared.numbers.Cursor.{Cursor}
+use Rattle.fields.specs.declared.refusals.Place.{Place}
+use Rattle.fields.specs.Tests.{pick, has, same}
+use Rattle.fields.proofs.Chains.{Of, either}
+use Rattle.items.specs.declared.items.Item.{Item}
+use Rattle.items.specs.declared.items.Statement.{Statement}
+use Rattle.items.specs.Items.{itemsOf}
+use Rattle.items.specs.Statements.{bitOf, statedIf, statementsOf, questionOf, Names, AllName}
+use Rattle.items.proofs.Chains.{after-item}
+use Rattle.items.proofs.Lawful.{Reads, one-bit, item-spans}
 use Rattle.sheet.specs.declared.whole.SheetRead.{SheetRead}
-use Rattle.sheet.specs.Items.{itemsOf}
 use Rattle.sheet.specs.Sheets.{Named, sheet, thenSheet, readSheet, allStatements, sheetAt, sheetOf}
-use Rattle.sheet.specs.Statements.{bitOf, statedIf, statementsOf, questionOf, Names, AllName}
-use Rattle.sheet.specs.Tests.{pick, has, same}
-use Rattle.sheet.proofs.Chains.{Of, either, after-item}
-use Rattle.sheet.proofs.Lawful.{Reads, one-bit, item-spans}
 
 both : {n : ℕ} {xs ys : List Statement} → Of (AllName n) xs → Of (AllName n) ys → Of (AllName n) (xs ++ ys)
 both {xs = []} p q = q

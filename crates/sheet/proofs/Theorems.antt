@@ -3,20 +3,20 @@ use Prim.Native.Nat.{ℕ, _≤_}
 use mathlib.Core.List.{List}
 use mathlib.Core.Path.{_≡_, refl, subst, _∙_}
 use lib.ListN.{length, length-map}
-use Rattle.sheet.specs.declared.headers.Header.{Header}
-use Rattle.sheet.specs.declared.items.Place.{Place}
-use Rattle.sheet.specs.declared.numbers.Cursor.{Cursor}
-use Rattle.sheet.specs.declared.refusals.Refusal.{Refusal}
+use Rattle.fields.specs.declared.numbers.Cursor.{Cursor}
+use Rattle.fields.specs.declared.refusals.Place.{Place}
+use Rattle.fields.specs.declared.refusals.Refusal.{Refusal}
+use Rattle.fields.proofs.Chains.{told}
+use Rattle.headers.specs.declared.headers.Header.{Header}
+use Rattle.items.specs.Items.{itemsOf}
+use Rattle.items.specs.Statements.{questionOf}
+use Rattle.items.proofs.Runs.{run-count}
 use Rattle.sheet.specs.declared.whole.SheetRead.{SheetRead}
-use Rattle.sheet.specs.Items.{itemsOf}
 use Rattle.sheet.specs.Sheets.{Named, readSheet, longest, sheetAt, sheetOf}
 use Rattle.sheet.specs.Told.{nothing, sheetTold}
-use Rattle.sheet.specs.Statements.{questionOf}
 use Rattle.sheet.proofs.Accepted.{Accepts, sheet-spans}
-use Rattle.sheet.proofs.Chains.{told}
 use Rattle.sheet.proofs.Longest.{longest-sheet, longest-length, longest-accepted}
 use Rattle.sheet.proofs.Named.{sheet-named}
-use Rattle.sheet.proofs.Runs.{run-count}
 
 -- what it states and asks names variables below n
 pub names-below : (s : List ℕ) → Named (sheetOf s)

@@ -1,10 +1,4 @@
--- The format of a sheet, from tests on bytes to the statements of the whole.
-pub mod Tests
-pub mod Refusals
+-- The format of a whole sheet, and what it states and asks.
 pub mod Told
-pub mod Fields
-pub mod Headers
-pub mod Items
-pub mod Statements
 pub mod Sheets
 pub mod Parts

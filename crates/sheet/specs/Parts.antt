@@ -2,11 +2,11 @@
 use Prim.Native.Nat.{ℕ, _-_}
 use mathlib.Core.List.{List, []}
 use lib.ListN.{take, drop}
-use Rattle.sheet.specs.declared.headers.Header.{Header}
-use Rattle.sheet.specs.declared.items.Place.{Place}
-use Rattle.sheet.specs.Items.{thenItem, thenEnd, itemAt, itemsEnd}
+use Rattle.fields.specs.declared.refusals.Place.{Place}
+use Rattle.fields.specs.Tests.{less, pick}
+use Rattle.headers.specs.declared.headers.Header.{Header}
+use Rattle.items.specs.Items.{thenItem, thenEnd, itemAt, itemsEnd}
 use Rattle.sheet.specs.Sheets.{thenSheet, readSheet}
-use Rattle.sheet.specs.Tests.{less, pick}
 
 -- the bytes of the record behind so many records
 unfoldable pub partAt : List ℕ → Header → ℕ → List ℕ

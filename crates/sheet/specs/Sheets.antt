@@ -1,18 +1,18 @@
 -- The whole sheet, and what it states and asks.
 use Prim.Native.Nat.{ℕ}
 use mathlib.Core.List.{List, [], _∷_, _++_, map}
-use Rattle.sheet.specs.declared.headers.Header.{Header}
-use Rattle.sheet.specs.declared.items.Item.{Item}
-use Rattle.sheet.specs.declared.items.Place.{Place}
-use Rattle.sheet.specs.declared.items.Statement.{Statement}
-use Rattle.sheet.specs.declared.numbers.Cursor.{Cursor}
-use Rattle.sheet.specs.declared.refusals.Refusal.{Refusal}
+use Rattle.fields.specs.declared.numbers.Cursor.{Cursor}
+use Rattle.fields.specs.declared.refusals.Place.{Place}
+use Rattle.fields.specs.declared.refusals.Refusal.{Refusal}
+use Rattle.fields.specs.Refusals.{remain, trailingRefusal}
+use Rattle.fields.specs.Tests.{pick}
+use Rattle.headers.specs.declared.headers.Header.{Header}
+use Rattle.headers.specs.Headers.{thenHeader, headerOf}
+use Rattle.items.specs.declared.items.Item.{Item}
+use Rattle.items.specs.declared.items.Statement.{Statement}
+use Rattle.items.specs.Items.{thenEnd, itemsEnd, itemsOf}
+use Rattle.items.specs.Statements.{statementsOf, questionOf, AllName}
 use Rattle.sheet.specs.declared.whole.SheetRead.{SheetRead}
-use Rattle.sheet.specs.Headers.{thenHeader, headerOf}
-use Rattle.sheet.specs.Items.{thenEnd, itemsEnd, itemsOf}
-use Rattle.sheet.specs.Refusals.{remain, trailingRefusal}
-use Rattle.sheet.specs.Statements.{statementsOf, questionOf, AllName}
-use Rattle.sheet.specs.Tests.{pick}
 
 abbrev pub thenSheet : {A : Type 0} → SheetRead → (Refusal → A) → (Header → Cursor → A) → A
 thenSheet (SheetRead.Accepted h asked) refused next = next h asked

@@ -1,12 +1,12 @@
 -- What each answer tells in numbers: a refusal its number and its offset, anything else 0 and 0.
 use Prim.Native.Nat.{ℕ}
-use Rattle.sheet.specs.declared.headers.HeaderRead.{HeaderRead}
-use Rattle.sheet.specs.declared.items.EndRead.{EndRead}
-use Rattle.sheet.specs.declared.items.ItemRead.{ItemRead}
-use Rattle.sheet.specs.declared.items.QuestionRead.{QuestionRead}
-use Rattle.sheet.specs.declared.refusals.Refusal.{Refusal}
+use Rattle.fields.specs.declared.refusals.Refusal.{Refusal}
+use Rattle.fields.specs.Refusals.{numberOf}
+use Rattle.headers.specs.declared.headers.HeaderRead.{HeaderRead}
+use Rattle.items.specs.declared.items.EndRead.{EndRead}
+use Rattle.items.specs.declared.items.ItemRead.{ItemRead}
+use Rattle.items.specs.declared.items.QuestionRead.{QuestionRead}
 use Rattle.sheet.specs.declared.whole.SheetRead.{SheetRead}
-use Rattle.sheet.specs.Refusals.{numberOf}
 
 pub record Told : Type 0 where
   pub number : ℕ

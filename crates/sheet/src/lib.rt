@@ -1,12 +1,14 @@
-// Sheets: the byte format, its reader, and the refusals of a malformed sheet by number and offset.
-mod fields;
-mod headers;
-mod items;
-mod numbers;
+// Sheets: the whole byte format, and its reader.
 mod parts;
-mod refusals;
 mod whole;
 
+pub use fields::Cursor;
+pub use fields::Fault;
+pub use fields::Feature;
+pub use fields::Label;
+pub use fields::Place;
+pub use fields::Refusal;
+pub use fields::Variable;
 pub use fields::has_bit;
 pub use headers::Header;
 pub use headers::HeaderRead;
@@ -14,18 +16,11 @@ pub use headers::read_header;
 pub use items::EndRead;
 pub use items::Item;
 pub use items::ItemRead;
-pub use items::Place;
 pub use items::QuestionRead;
 pub use items::Statement;
 pub use items::items_end;
 pub use items::read_question;
 pub use items::read_record;
-pub use numbers::Cursor;
-pub use numbers::Feature;
-pub use numbers::Label;
-pub use numbers::Variable;
 pub use parts::record_part;
-pub use refusals::Fault;
-pub use refusals::Refusal;
 pub use whole::SheetRead;
 pub use whole::read_sheet;

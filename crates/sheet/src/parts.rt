@@ -1,12 +1,12 @@
 // A record's own bytes, as a part of the caller's sheet.
-use crate::headers::Header;
-use crate::items::EndRead;
-use crate::items::ItemRead;
-use crate::items::Place;
-use crate::items::items_end;
-use crate::items::read_record;
 use crate::whole::SheetRead;
 use crate::whole::read_sheet;
+use fields::Place;
+use headers::Header;
+use items::EndRead;
+use items::ItemRead;
+use items::items_end;
+use items::read_record;
 ghost use mathlib.Core.Path.{_≡_};
 ghost use Rattle.sheet.specs.Parts.{partAt, recordBytes};
 

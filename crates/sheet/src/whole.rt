@@ -1,13 +1,13 @@
 // The whole sheet: header, records, questions, and nothing behind them. One pass judges all of it.
-use crate::headers::Header;
-use crate::headers::HeaderRead;
-use crate::headers::read_header;
-use crate::items::EndRead;
-use crate::items::Place;
-use crate::items::items_end;
-use crate::numbers::Cursor;
-use crate::refusals::Fault;
-use crate::refusals::Refusal;
+use fields::Cursor;
+use fields::Fault;
+use fields::Place;
+use fields::Refusal;
+use headers::Header;
+use headers::HeaderRead;
+use headers::read_header;
+use items::EndRead;
+use items::items_end;
 ghost use mathlib.Core.Path.{_≡_};
 ghost use Rattle.sheet.specs.Sheets.{bodyOf, readSheet};
 

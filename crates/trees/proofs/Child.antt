@@ -4,9 +4,9 @@ use mathlib.Core.Bool.{Bool, true, false}
 use mathlib.Core.List.{List, _∷_, List·Memᴰ·head, List·Memᴰ·tail}
 use mathlib.Core.Path.{_≡_, refl, sym, _∙_}
 use native.Mathlib.Omega.{arith}
-use Rattle.sheet.specs.declared.items.Statement.{Statement}
-use Rattle.sheet.specs.Tests.{same}
-use Rattle.sheet.proofs.Choice.{is-same, not-same}
+use Rattle.fields.specs.Tests.{same}
+use Rattle.fields.proofs.Choice.{is-same, not-same}
+use Rattle.items.specs.declared.items.Statement.{Statement}
 use Rattle.rules.specs.Connectives.{_and_, _or_}
 use Rattle.rules.specs.Facts.{Kind, ordered, compatible, Relation, Holds}
 use Rattle.rules.specs.Stated.{selection, labelling, Stated, someSelection}

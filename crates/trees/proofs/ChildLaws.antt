@@ -5,9 +5,9 @@ use mathlib.Core.List.{List, List·Memᴰ·head, List·Memᴰ·tail}
 use mathlib.Core.Logic.{_⊎_, inl, inr, ⊎-elim}
 use mathlib.Core.Path.{_≡_, refl, sym, subst, _∙_}
 use native.Mathlib.Omega.{arith}
-use Rattle.sheet.specs.declared.items.Statement.{Statement}
-use Rattle.sheet.specs.Tests.{same}
-use Rattle.sheet.proofs.Choice.{same-true}
+use Rattle.fields.specs.Tests.{same}
+use Rattle.fields.proofs.Choice.{same-true}
+use Rattle.items.specs.declared.items.Statement.{Statement}
 use Rattle.rules.specs.Facts.{Kind, ordered, compatible, fact, Relation, Holds, Closed}
 use Rattle.rules.specs.Stated.{selection, labelling, Stated}
 use Rattle.rules.proofs.Supported.{under-by, over-by, under-of, over-of}

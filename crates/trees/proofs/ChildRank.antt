@@ -4,9 +4,9 @@ use mathlib.Core.Bool.{Bool, true, false}
 use mathlib.Core.List.{List, [], _∷_, List·Memᴰ, List·Memᴰ·head, List·Memᴰ·tail}
 use mathlib.Core.Path.{_≡_, refl, sym, subst}
 use native.Mathlib.Omega.{arith}
-use Rattle.sheet.specs.declared.items.Statement.{Statement}
-use Rattle.sheet.specs.Tests.{same}
-use Rattle.sheet.proofs.Choice.{is-same}
+use Rattle.fields.specs.Tests.{same}
+use Rattle.fields.proofs.Choice.{is-same}
+use Rattle.items.specs.declared.items.Statement.{Statement}
 use Rattle.rules.specs.Facts.{ordered, Relation, Holds}
 use Rattle.rules.specs.Stated.{selection, Stated}
 use Rattle.rules.proofs.Lists.{named}

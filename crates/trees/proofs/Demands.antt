@@ -4,12 +4,12 @@ use mathlib.Core.Bool.{true, false}
 use mathlib.Core.List.{List}
 use mathlib.Core.Logic.{_↔_}
 use mathlib.Core.Path.{_≡_}
-use Rattle.sheet.specs.declared.headers.Header.{Header}
-use Rattle.sheet.specs.declared.items.Statement.{Statement}
-use Rattle.sheet.specs.declared.numbers.Cursor.{Cursor}
+use Rattle.fields.specs.declared.numbers.Cursor.{Cursor}
+use Rattle.headers.specs.declared.headers.Header.{Header}
+use Rattle.items.specs.declared.items.Statement.{Statement}
+use Rattle.items.specs.Statements.{All, Names}
 use Rattle.sheet.specs.declared.whole.SheetRead.{SheetRead}
 use Rattle.sheet.specs.Sheets.{Sheet, readSheet, sheetAt}
-use Rattle.sheet.specs.Statements.{All, Names}
 use Rattle.sheet.proofs.Theorems.{accepted-names}
 use Rattle.rules.specs.declared.replies.Reply.{Reply}
 use Rattle.rules.specs.Demand.{Demand-2, Smallest}

@@ -3,7 +3,7 @@ use Prim.Native.Nat.{ℕ, _≤_}
 use mathlib.Core.List.{List, [], _∷_}
 use lib.ListN.{length}
 use native.Mathlib.Omega.{arith}
-use Rattle.sheet.specs.declared.items.Statement.{Statement}
+use Rattle.items.specs.declared.items.Statement.{Statement}
 use Rattle.rules.specs.Facts.{Relation}
 use Rattle.trees.specs.Trees.{Present, Path}
 use Rattle.trees.proofs.Structures.{Laws}

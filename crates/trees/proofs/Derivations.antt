@@ -4,10 +4,10 @@ use mathlib.Core.Bool.{true, false}
 use mathlib.Core.List.{List}
 use mathlib.Core.Logic.{inl, inr}
 use mathlib.Core.Path.{_≡_, refl, sym, subst}
-use Rattle.sheet.specs.declared.items.Statement.{Statement}
-use Rattle.sheet.specs.Statements.{Names, AllName}
-use Rattle.sheet.specs.Tests.{same}
-use Rattle.sheet.proofs.Choice.{is-same, same-true, same-false}
+use Rattle.fields.specs.Tests.{same}
+use Rattle.fields.proofs.Choice.{is-same, same-true, same-false}
+use Rattle.items.specs.declared.items.Statement.{Statement}
+use Rattle.items.specs.Statements.{Names, AllName}
 use Rattle.rules.specs.Connectives.{_or_}
 use Rattle.rules.specs.Facts.{Kind, ordered, compatible, Relation, Holds, Closed}
 use Rattle.rules.specs.Stated.{selection, labelling, Stated}

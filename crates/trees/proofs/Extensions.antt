@@ -4,8 +4,8 @@ use mathlib.Core.Bool.{true}
 use mathlib.Core.List.{List}
 use mathlib.Core.Path.{_≡_, refl, _∙_}
 use native.Mathlib.Omega.{arith}
-use Rattle.sheet.specs.declared.items.Statement.{Statement}
-use Rattle.sheet.specs.Statements.{Names}
+use Rattle.items.specs.declared.items.Statement.{Statement}
+use Rattle.items.specs.Statements.{Names}
 use Rattle.rules.specs.Facts.{Kind, ordered, Relation, Holds}
 use Rattle.rules.specs.Stated.{selection, Stated}
 use Rattle.rules.specs.Support.{supported}

@@ -3,9 +3,9 @@ use Prim.Native.Nat.{ℕ, _<_}
 use mathlib.Core.Bool.{false}
 use mathlib.Core.List.{List}
 use mathlib.Core.Path.{_≡_, subst}
-use Rattle.sheet.specs.declared.items.Statement.{Statement}
+use Rattle.items.specs.declared.items.Statement.{Statement}
+use Rattle.items.specs.Statements.{AllName, All, Names}
 use Rattle.sheet.specs.Sheets.{Sheet}
-use Rattle.sheet.specs.Statements.{AllName, All, Names}
 use Rattle.rules.specs.declared.replies.Reply.{Reply}
 use Rattle.rules.specs.Facts.{ordered}
 use Rattle.rules.specs.Replies.{fails, replyTo}

@@ -4,7 +4,7 @@ use Prim.Native.Nat.{ℕ, _<_}
 use mathlib.Core.Bool.{true}
 use mathlib.Core.List.{List, [], _∷_, _++_}
 use mathlib.Core.Path.{_≡_}
-use Rattle.sheet.specs.declared.items.Statement.{Statement}
+use Rattle.items.specs.declared.items.Statement.{Statement}
 use Rattle.rules.specs.Facts.{ordered, compatible, Relation, Holds}
 use Rattle.rules.specs.Support.{underLabel}
 use Rattle.rules.specs.Stated.{selection, Stated}

@@ -4,9 +4,9 @@ use mathlib.Core.Bool.{Bool, true, false}
 use mathlib.Core.List.{List, [], _∷_, List·Memᴰ, List·Memᴰ·head, List·Memᴰ·tail}
 use mathlib.Core.Option.{Option, none, some}
 use mathlib.Core.Path.{_≡_, refl, ap, ap₂, subst}
-use Rattle.sheet.specs.declared.items.Statement.{Statement}
-use Rattle.sheet.specs.Tests.{same, pick}
-use Rattle.sheet.proofs.Choice.{is-same, same-true}
+use Rattle.fields.specs.Tests.{same, pick}
+use Rattle.fields.proofs.Choice.{is-same, same-true}
+use Rattle.items.specs.declared.items.Statement.{Statement}
 use Rattle.rules.specs.Stated.{selection, Stated}
 use Rattle.rules.specs.Connectives.{_and_}
 use Rattle.rules.proofs.Logic.{both, first-of, second-of}

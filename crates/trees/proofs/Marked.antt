@@ -5,10 +5,10 @@ use mathlib.Core.List.{List}
 use mathlib.Core.Logic.{_⊎_, inl, inr, ⊎-elim}
 use mathlib.Core.Path.{_≡_, refl, sym, subst}
 use native.Mathlib.Omega.{arith}
-use Rattle.sheet.specs.declared.items.Statement.{Statement}
-use Rattle.sheet.specs.Statements.{Names}
-use Rattle.sheet.specs.Tests.{less}
-use Rattle.sheet.proofs.Choice.{is-less, not-less}
+use Rattle.fields.specs.Tests.{less}
+use Rattle.fields.proofs.Choice.{is-less, not-less}
+use Rattle.items.specs.declared.items.Statement.{Statement}
+use Rattle.items.specs.Statements.{Names}
 use Rattle.rules.specs.Facts.{Kind, ordered, compatible, fact, Relation, Holds, Closed}
 use Rattle.rules.specs.Stated.{selection, labelling, Stated}
 use Rattle.rules.proofs.Logic.{contrary}

@@ -8,8 +8,8 @@ use mathlib.Core.Logic.{_⊎_, ⊎-elim}
 use mathlib.Core.Path.{_≡_, refl, sym, ap, subst}
 use borrow.Author.Tests.{not-true}
 use native.Mathlib.Omega.{arith}
-use Rattle.sheet.specs.declared.items.Statement.{Statement}
-use Rattle.sheet.specs.Tests.{pick}
+use Rattle.fields.specs.Tests.{pick}
+use Rattle.items.specs.declared.items.Statement.{Statement}
 use Rattle.rules.specs.Facts.{compatible, Relation}
 use Rattle.rules.specs.Stated.{selection, labelling, Stated}
 use Rattle.rules.proofs.Logic.{last-or-before}

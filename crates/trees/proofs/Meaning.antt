@@ -4,9 +4,9 @@ use mathlib.Core.Bool.{false}
 use mathlib.Core.List.{[], _∷_, _++_}
 use mathlib.Core.Path.{_≡_, sym, _∙_}
 use native.Mathlib.Omega.{arith}
-use Rattle.sheet.specs.declared.items.Statement.{Statement}
+use Rattle.items.specs.declared.items.Statement.{Statement}
+use Rattle.items.specs.Statements.{Names, AllName}
 use Rattle.sheet.specs.Sheets.{Sheet}
-use Rattle.sheet.specs.Statements.{Names, AllName}
 use Rattle.rules.specs.declared.replies.Reply.{Reply}
 use Rattle.rules.specs.Replies.{fails, withStatement, replyTo}
 use Rattle.rules.proofs.Demand.{replied}

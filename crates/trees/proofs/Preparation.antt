@@ -5,8 +5,8 @@ use mathlib.Core.List.{List, [], _∷_, List·Memᴰ·head}
 use mathlib.Core.Logic.{_⊎_, inl, inr, ⊎-elim}
 use mathlib.Core.Path.{_≡_, refl, _∙_}
 use native.Mathlib.Omega.{arith}
-use Rattle.sheet.specs.declared.items.Statement.{Statement}
-use Rattle.sheet.specs.Statements.{All, Names, AllName}
+use Rattle.items.specs.declared.items.Statement.{Statement}
+use Rattle.items.specs.Statements.{All, Names, AllName}
 use Rattle.rules.specs.Facts.{ordered, compatible, Relation}
 use Rattle.rules.specs.Stated.{selection, Stated}
 use Rattle.rules.specs.Support.{supported, underChild, underLabel}

@@ -4,7 +4,7 @@ use mathlib.Core.Bool.{Bool, true, false≢true}
 use mathlib.Core.List.{List, [], _∷_, List·Memᴰ·head, List·Memᴰ·eq-of-singleton}
 use mathlib.Core.Option.{Option}
 use mathlib.Core.Path.{_≡_, refl, ap, subst}
-use Rattle.sheet.specs.declared.items.Statement.{Statement}
+use Rattle.items.specs.declared.items.Statement.{Statement}
 use Rattle.rules.specs.Facts.{ordered, compatible, Relation, Holds}
 use Rattle.rules.specs.Stated.{selection, labelling, Stated, any, firstLabel}
 use Rattle.rules.proofs.Some.{any-by, any-one}

@@ -3,7 +3,7 @@ use Prim.Native.Nat.{ℕ}
 use mathlib.Core.Bool.{true}
 use mathlib.Core.List.{List, [], _∷_}
 use mathlib.Core.Path.{_≡_}
-use Rattle.sheet.specs.declared.items.Statement.{Statement}
+use Rattle.items.specs.declared.items.Statement.{Statement}
 use Rattle.rules.specs.Facts.{Kind, ordered, compatible, fact, Holds, Closed}
 use Rattle.rules.specs.Stated.{selection, Stated}
 use Rattle.rules.specs.Derived.{factsOf}

@@ -3,9 +3,9 @@ use Prim.Native.Nat.{ℕ, _<_}
 use mathlib.Core.List.{List}
 use mathlib.Core.Logic.{_⊎_, ⊎-elim}
 use mathlib.Core.Path.{_≡_, sym, ap, subst}
-use Rattle.sheet.specs.declared.items.Statement.{Statement}
-use Rattle.sheet.specs.Fields.{variable, feature, label}
-use Rattle.sheet.specs.Statements.{AllName}
+use Rattle.fields.specs.Fields.{variable, feature, label}
+use Rattle.items.specs.declared.items.Statement.{Statement}
+use Rattle.items.specs.Statements.{AllName}
 use Rattle.rules.specs.Facts.{Kind, ordered, compatible, Relation, Holds, Closed}
 use Rattle.rules.specs.Stated.{selection, labelling, Stated}
 

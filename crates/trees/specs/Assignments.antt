@@ -1,9 +1,9 @@
 -- Assignments of trees to variables: which meet a sheet, and which keep or break a question.
 use Prim.Native.Nat.{ℕ, _<_}
 use mathlib.Core.List.{List}
-use Rattle.sheet.specs.declared.items.Statement.{Statement}
+use Rattle.items.specs.declared.items.Statement.{Statement}
+use Rattle.items.specs.Statements.{All}
 use Rattle.sheet.specs.Sheets.{Sheet}
-use Rattle.sheet.specs.Statements.{All}
 use Rattle.trees.specs.Trees.{Tree, IsTree, Below, Compatible, Child, Labelled}
 
 abbrev pub Assignment : Type 0

@@ -2,9 +2,9 @@
 use mathlib.Core.Bool.{true, false}
 use mathlib.Core.Logic.{_↔_}
 use mathlib.Core.Path.{_≡_}
-use Rattle.sheet.specs.declared.items.Statement.{Statement}
+use Rattle.items.specs.declared.items.Statement.{Statement}
+use Rattle.items.specs.Statements.{Names}
 use Rattle.sheet.specs.Sheets.{Sheet}
-use Rattle.sheet.specs.Statements.{Names}
 use Rattle.rules.specs.declared.replies.Reply.{Reply}
 use Rattle.rules.specs.Replies.{fails, replyTo}
 use Rattle.trees.specs.Assignments.{Assignment, Keeps, Breaks, Counts}

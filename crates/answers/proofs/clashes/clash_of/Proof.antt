@@ -5,7 +5,7 @@ use mathlib.Core.List.{List}
 use mathlib.Core.Path.{_≡_, sym, _∙_}
 use native.Mathlib.Omega.{arith}
 use native.Mathlib.Nat.{sub-zero}
-use Rattle.sheet.specs.declared.items.Statement.{Statement}
+use Rattle.items.specs.declared.items.Statement.{Statement}
 use Rattle.rules.specs.Clashes.{clashInRows}
 use Rattle.rules.specs.Tables.{facts}
 use Rattle.answers.specs.Labels.{LabelsStand}

@@ -2,7 +2,7 @@
 use borrow.Author.Needs.{needs}
 use mathlib.Core.Path.{sym}
 use native.Mathlib.Omega.{arith}
-use Rattle.sheet.specs.Tests.{same}
+use Rattle.fields.specs.Tests.{same}
 use Rattle.answers.proofs.Kept.{none-other, one-other, several-other}
 use Rattle.answers.proofs.labels.has_other.Statement.{statement}
 use Rattle.answers.proofs.labels.has_other.Tie as tie

@@ -2,7 +2,7 @@
 use borrow.Author.Needs.{needs}
 use mathlib.Core.Path.{sym, _∙_}
 use native.Mathlib.Omega.{arith}
-use Rattle.sheet.specs.Tests.{same}
+use Rattle.fields.specs.Tests.{same}
 use Rattle.answers.proofs.Kept.{none-differ, one-differ, several-differ}
 use Rattle.answers.proofs.labels.labels_differ.Statement.{statement}
 use Rattle.answers.proofs.labels.labels_differ.Tie as tie

@@ -1,7 +1,7 @@
 -- `answers::labels::note_label` meets its contract: each way stores what its test chooses.
 use borrow.Author.Needs.{needs}
 use mathlib.Core.Path.{refl}
-use Rattle.sheet.proofs.Choice.{is-same, not-same, chosen, passed}
+use Rattle.fields.proofs.Choice.{is-same, not-same, chosen, passed}
 use Rattle.answers.specs.Labels.{countsWith, labelsWith}
 use Rattle.answers.proofs.labels.note_label.Statement.{statement}
 use Rattle.answers.proofs.labels.note_label.Tie as tie

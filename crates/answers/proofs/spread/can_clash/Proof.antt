@@ -1,7 +1,7 @@
 -- `answers::spread::can_clash` meets its contract: each answer is that of its definition.
 use borrow.Author.Needs.{needs}
 use mathlib.Core.Path.{refl}
-use Rattle.sheet.specs.Tests.{same}
+use Rattle.fields.specs.Tests.{same}
 use Rattle.answers.proofs.spread.can_clash.Statement.{statement}
 use Rattle.answers.proofs.spread.can_clash.Tie as tie
 

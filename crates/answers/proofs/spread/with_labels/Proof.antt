@@ -1,7 +1,7 @@
 -- `answers::spread::with_labels` meets its contract: each way takes what its tests choose.
 use borrow.Author.Needs.{needs}
 use mathlib.Core.Path.{refl}
-use Rattle.sheet.proofs.Choice.{is-same, not-same, chosen, passed}
+use Rattle.fields.proofs.Choice.{is-same, not-same, chosen, passed}
 use Rattle.answers.specs.Spreads.{withLabel, withLabels}
 use Rattle.answers.proofs.spread.with_labels.Statement.{statement}
 use Rattle.answers.proofs.spread.with_labels.Tie as tie

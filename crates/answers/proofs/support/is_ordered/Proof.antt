@@ -1,6 +1,6 @@
 -- `answers::support::is_ordered` meets its contract: the two are asked in the order wanted.
 use borrow.Author.Needs.{needs}
-use Rattle.sheet.proofs.Choice.{chosen, passed}
+use Rattle.fields.proofs.Choice.{chosen, passed}
 use Rattle.answers.specs.Supports.{orderedSo}
 use Rattle.answers.proofs.support.is_ordered.Statement.{statement}
 use Rattle.answers.proofs.support.is_ordered.Tie as tie

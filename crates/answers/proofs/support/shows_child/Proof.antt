@@ -3,7 +3,7 @@ use Prim.Native.Nat.{_-_, _≤_}
 use lib.ListN.{length}
 use mathlib.Core.Path.{_≡_, refl, sym, _∙_}
 use native.Mathlib.Omega.{arith}
-use Rattle.sheet.proofs.Choice.{is-same, not-same}
+use Rattle.fields.proofs.Choice.{is-same, not-same}
 use Rattle.rules.specs.Stated.{anyBelow}
 use Rattle.rules.specs.Tables.{facts}
 use Rattle.rules.proofs.Logic.{both}

@@ -4,7 +4,7 @@ use Prim.Native.Nat.{_≤_}
 use mathlib.Core.Bool.{not}
 use mathlib.Core.Path.{_≡_, refl, sym, ap, _∙_}
 use native.Mathlib.Omega.{arith}
-use Rattle.sheet.proofs.Choice.{is-same, not-same}
+use Rattle.fields.proofs.Choice.{is-same, not-same}
 use Rattle.rules.specs.Stated.{anyBelow}
 use Rattle.rules.specs.Tables.{facts}
 use Rattle.rules.proofs.Logic.{both}

@@ -1,7 +1,7 @@
 -- `answers::support::supports` meets its contract: each kind of question by its own search.
 use borrow.Author.Needs.{needs}
 use mathlib.Core.Path.{sym, subst, _∙_}
-use Rattle.sheet.specs.Statements.{Names}
+use Rattle.items.specs.Statements.{Names}
 use Rattle.rules.specs.Support.{supported}
 use Rattle.answers.proofs.Shown.{cell-of, under-first, not-under}
 use Rattle.answers.proofs.support.supports.Statement.{statement}

@@ -3,7 +3,7 @@ use Prim.Native.Nat.{_-_}
 use lib.ListN.{length}
 use mathlib.Core.Path.{sym, _∙_}
 use native.Mathlib.Omega.{arith}
-use Rattle.sheet.proofs.Choice.{less-true, less-false}
+use Rattle.fields.proofs.Choice.{less-true, less-false}
 use Rattle.bench.proofs.Judged.{refusal, denied, granted, BelowSoFar, so-far-none, so-far-next, so-far-all}
 use Rattle.bench.proofs.Judged.{not-below}
 use Rattle.bench.proofs.lists.all_below.Statement.{statement}

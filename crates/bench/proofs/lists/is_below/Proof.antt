@@ -1,6 +1,6 @@
 -- `bench::lists::is_below` meets its contract.
 use mathlib.Core.Path.{refl}
-use Rattle.sheet.specs.Tests.{less}
+use Rattle.fields.specs.Tests.{less}
 use Rattle.bench.proofs.lists.is_below.Statement.{statement}
 use Rattle.bench.proofs.lists.is_below.Tie as tie
 

@@ -1,7 +1,7 @@
 -- `closure::descent::is_new` meets its contract: the feature first, then the cell.
 use borrow.Author.Needs.{needs}
 use mathlib.Core.Path.{refl, ap, _∙_}
-use Rattle.sheet.proofs.Choice.{is-same, not-same, chosen, passed}
+use Rattle.fields.proofs.Choice.{is-same, not-same, chosen, passed}
 use Rattle.rules.specs.Tables.{cellAt}
 use Rattle.facts.specs.Cells.{isLacking}
 use Rattle.closure.specs.Descent.{isNew}

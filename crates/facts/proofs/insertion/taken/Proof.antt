@@ -1,7 +1,7 @@
 -- `facts::insertion::taken` meets its contract, test by test.
 use borrow.Author.Needs.{needs}
 use mathlib.Core.Path.{refl, sym, ap, _∙_}
-use Rattle.sheet.proofs.Choice.{chosen, passed}
+use Rattle.fields.proofs.Choice.{chosen, passed}
 use Rattle.rules.specs.Facts.{ordered}
 use Rattle.rules.specs.Tables.{says}
 use Rattle.facts.specs.Insertion.{takenAt}

@@ -1,6 +1,6 @@
 -- `facts::table::lacks` meets its contract.
 use mathlib.Core.Path.{refl}
-use Rattle.sheet.specs.Tests.{same}
+use Rattle.fields.specs.Tests.{same}
 use Rattle.facts.specs.Cells.{isLacking}
 use Rattle.facts.proofs.table.lacks.Statement.{statement}
 use Rattle.facts.proofs.table.lacks.Tie as tie

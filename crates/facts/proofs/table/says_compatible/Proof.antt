@@ -1,6 +1,6 @@
 -- `facts::table::says_compatible` meets its contract.
 use mathlib.Core.Path.{refl}
-use Rattle.sheet.specs.Tests.{less}
+use Rattle.fields.specs.Tests.{less}
 use Rattle.rules.specs.Tables.{says}
 use Rattle.facts.proofs.table.says_compatible.Statement.{statement}
 use Rattle.facts.proofs.table.says_compatible.Tie as tie

@@ -1,6 +1,6 @@
 -- `facts::table::says_ordered` meets its contract: 1 or 3.
 use borrow.Author.Tests.{eq-eqb, ne-eqb}
-use Rattle.sheet.specs.Tests.{same}
+use Rattle.fields.specs.Tests.{same}
 use Rattle.rules.specs.Connectives.{_or_}
 use Rattle.rules.specs.Tables.{says}
 use Rattle.facts.proofs.table.says_ordered.Statement.{statement}

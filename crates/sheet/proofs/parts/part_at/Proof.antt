@@ -1,9 +1,9 @@
 -- The part lies inside the sheet, since an item that is read does.
 use mathlib.Core.Path.{refl, sym, _∙_}
 use native.Mathlib.Omega.{arith}
+use Rattle.fields.proofs.Chains.{told}
+use Rattle.items.proofs.Lawful.{item-spans}
 use Rattle.sheet.specs.Parts.{partAt}
-use Rattle.sheet.proofs.Chains.{told}
-use Rattle.sheet.proofs.Lawful.{item-spans}
 use borrow.Author.Needs.{needs}
 use Rattle.sheet.proofs.parts.part_at.Statement.{statement}
 use Rattle.sheet.proofs.parts.part_at.Tie as tie

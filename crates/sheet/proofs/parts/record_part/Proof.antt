@@ -1,6 +1,6 @@
 -- Accepted or not, below the record count or not.
 use mathlib.Core.Path.{refl}
-use Rattle.sheet.proofs.Choice.{chosen, passed, is-less, not-less}
+use Rattle.fields.proofs.Choice.{chosen, passed, is-less, not-less}
 use Rattle.sheet.specs.Parts.{recordBytes}
 use borrow.Author.Needs.{needs}
 use Rattle.sheet.proofs.parts.record_part.Statement.{statement}

@@ -1,8 +1,8 @@
 -- Each answer is the chain of runs so far.
 use mathlib.Core.Path.{refl}
-use Rattle.sheet.proofs.Choice.{chosen, passed, is-less, not-less}
+use Rattle.fields.proofs.Choice.{chosen, passed, is-less, not-less}
+use Rattle.fields.specs.Refusals.{remain}
 use Rattle.sheet.specs.Sheets.{bodyOf}
-use Rattle.sheet.specs.Refusals.{remain}
 use borrow.Author.Needs.{needs}
 use Rattle.sheet.proofs.whole.read_body.Statement.{statement}
 use Rattle.sheet.proofs.whole.read_body.Tie as tie

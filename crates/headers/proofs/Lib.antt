@@ -1,0 +1,2 @@
+-- Laws of the header that belong to no one function.
+pub mod Heads

@@ -1,0 +1,2 @@
+-- The header of a sheet.
+pub mod Headers
