@@ -1,7 +1,5 @@
 -- Laws of what is told.
 pub mod Logic
-pub mod Kept
-pub mod Skip
 pub mod Clashed
 pub mod OneLabel
 pub mod Counted

@@ -21,9 +21,9 @@ use Rattle.rules.proofs.Some.{below-by, below-one}
 use Rattle.rules.proofs.Lists.{all-with}
 use Rattle.rules.proofs.Derived.{smallest, derived-shape, derived-closed, is-derived}
 use Rattle.rules.proofs.Clashing.{differ-by, differ-of, clashing, not-clashing}
-use Rattle.answers.specs.Labels.{LabelsStand, NoLabelling, otherStated}
+use Rattle.labels.specs.Labels.{LabelsStand, NoLabelling, otherStated}
+use Rattle.labels.proofs.Kept.{still, last-stated, stated-of, subjectOf, labelOf, other-by, other-of}
 use Rattle.answers.specs.Supports.{SingleLabels}
-use Rattle.answers.proofs.Kept.{still, last-stated, stated-of, subjectOf, labelOf, other-by, other-of}
 
 -- j is alike to i and has a label other than a
 unfoldable pub meets : Relation → List Statement → ℕ → ℕ → ℕ → Bool

@@ -18,10 +18,10 @@ use Rattle.rules.proofs.Logic.{both, first-of, second-of, same-tests}
 use Rattle.rules.proofs.Some.{below-by, below-one, by-selection-at, one-selection-at}
 use Rattle.rules.proofs.Tables.{fact-row}
 use Rattle.rules.proofs.Supported.{label-by, label-under}
-use Rattle.facts.specs.Cells.{Cell}
+use Rattle.table.specs.Cells.{Cell}
 use Rattle.selections.specs.Listed.{Selections, Listed}
 use Rattle.selections.specs.Stands.{SelectionsStand}
-use Rattle.answers.specs.Labels.{LabelsStand}
+use Rattle.labels.specs.Labels.{LabelsStand}
 use Rattle.answers.specs.Cells.{Lent}
 use Rattle.answers.specs.Supports.{SingleLabels, orderedSo, childShown}
 use Rattle.answers.proofs.Logic.{fails-first, second-decides}

@@ -10,7 +10,7 @@ use Rattle.rules.specs.Stated.{labelling}
 use Rattle.rules.specs.Tables.{facts}
 use Rattle.rules.specs.Derived.{derived}
 use Rattle.rules.specs.Clashes.{clashInRow, clashInRows, clashes}
-use Rattle.answers.specs.Labels.{LabelsStand}
+use Rattle.labels.specs.Labels.{LabelsStand}
 
 -- the first clash of row i
 pub record RowTold (n : ℕ) (t counts labels : List ℕ) (i : ℕ) (r : Clash) : Type 0 where

@@ -1,6 +1,4 @@
 -- What is told of a closed fact table.
-pub mod Labels
-pub mod Spreads
 pub mod Cells
 pub mod Clashes
 pub mod Counts

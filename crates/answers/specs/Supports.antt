@@ -13,7 +13,7 @@ use Rattle.rules.specs.Tables.{facts}
 use Rattle.rules.specs.Support.{underLabel, supported}
 use Rattle.selections.specs.Listed.{Listed}
 use Rattle.selections.specs.Stands.{SelectionsStand}
-use Rattle.answers.specs.Labels.{LabelsStand}
+use Rattle.labels.specs.Labels.{LabelsStand}
 
 -- no variable has two different labels
 pub record SingleLabels (n : ℕ) (counts : List ℕ) : Type 0 where

@@ -1,10 +1,10 @@
 // Whether a fact holds in the table.
-use facts::look;
-use facts::says_compatible;
-use facts::says_ordered;
+use table::look;
+use table::says_compatible;
+use table::says_ordered;
 ghost use mathlib.Core.Path.{_≡_};
 ghost use Rattle.rules.specs.Tables.{facts};
-ghost use Rattle.facts.specs.Cells.{Cell};
+ghost use Rattle.table.specs.Cells.{Cell};
 ghost use Rattle.answers.specs.Cells.{kindOf};
 
 // i ~ j where alike is asked, else i ≤ j.

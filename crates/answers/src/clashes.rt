@@ -1,9 +1,9 @@
 // F5: the pair that clashes, and whether one more label would clash.
 use crate::cells::has_fact;
-use crate::labels::has_other;
-use crate::labels::labels_differ;
+use fields::Variable;
+use labels::has_other;
+use labels::labels_differ;
 use rules::Clash;
-use sheet::Variable;
 ghost use Prim.Native.Nat.{_<_};
 ghost use Rattle.answers.specs.Cells.{Lent};
 ghost use Rattle.answers.specs.Clashes.{RowTold, ClashTold, LabelClashTold};

@@ -1,6 +1,6 @@
 // Support: whether a question follows from the facts of the table.
 use crate::cells::has_fact;
-use sheet::Statement;
+use items::Statement;
 ghost use Prim.Native.Nat.{_<_};
 ghost use mathlib.Core.Path.{_≡_};
 ghost use Rattle.items.specs.Statements.{Names};

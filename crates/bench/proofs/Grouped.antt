@@ -4,13 +4,13 @@ use lib.ListN.{length}
 use mathlib.Core.List.{List}
 use mathlib.Core.Path.{_≡_, sym, _∙_}
 use Rattle.rules.specs.declared.clashes.Clash.{Clash}
-use Rattle.facts.specs.Queue.{queueRoom}
+use Rattle.table.specs.Queue.{queueRoom}
 use Rattle.selections.specs.Listed.{Selections}
 use Rattle.selections.proofs.Theorems.{made-groups, made-spare, made-stand}
-use Rattle.answers.specs.declared.spread.Spread.{Spread}
+use Rattle.labels.specs.declared.spread.Spread.{Spread}
+use Rattle.labels.specs.Spreads.{spreadBelow}
 use Rattle.answers.specs.Cells.{Lent}
 use Rattle.answers.specs.Clashes.{ClashTold}
-use Rattle.answers.specs.Spreads.{spreadBelow}
 use Rattle.closure.specs.Trials.{Standing}
 use Rattle.closure.proofs.Theorems.{may-be-told, is-derived-table, stands}
 use Rattle.bench.specs.Lists.{ListsDerive}

@@ -8,7 +8,7 @@ use mathlib.Core.Path.{_≡_, refl}
 use native.Mathlib.Omega.{arith}
 use Rattle.rules.proofs.Logic.{contrary, last-or-before}
 use Rattle.selections.specs.Listed.{Selections}
-use Rattle.closure.specs.Stands.{Pairs}
+use Rattle.derivation.specs.Stands.{Pairs}
 use Rattle.bench.specs.Lists.{Below, Lawful}
 use Rattle.bench.specs.Questions.{Questions, Askable}
 

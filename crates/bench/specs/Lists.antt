@@ -10,7 +10,7 @@ use Rattle.items.specs.Statements.{AllName}
 use Rattle.rules.specs.Derived.{derived}
 use Rattle.selections.specs.Listed.{Selections, Listed}
 use Rattle.selections.specs.Stands.{SelectionsStand}
-use Rattle.closure.specs.Stands.{Pairs, PairsStand}
+use Rattle.derivation.specs.Stands.{Pairs, PairsStand}
 
 -- each number of a list is below a bound
 pub record Below (bound : ℕ) (list : List ℕ) : Type 0 where

@@ -2,7 +2,7 @@
 use Prim.Native.Nat.{ℕ}
 use mathlib.Core.List.{List}
 use Rattle.selections.specs.Places.{Grouping}
-use Rattle.closure.specs.Stands.{DerivedFrom}
+use Rattle.derivation.specs.Stands.{DerivedFrom}
 
 pub record Made (n : ℕ) (cells lefts rights subjects features children : List ℕ)
     (starts ends group-features group-children t : List ℕ) : Type 0 where

@@ -10,10 +10,10 @@ use Rattle.items.specs.declared.items.Statement.{Statement}
 use Rattle.rules.specs.declared.clashes.Clash.{Clash}
 use Rattle.rules.specs.Stated.{ordering, compatibility, selection, labelling}
 use Rattle.rules.specs.Clashes.{clashes}
-use Rattle.answers.specs.declared.spread.Spread.{Spread}
+use Rattle.labels.specs.declared.spread.Spread.{Spread}
+use Rattle.labels.specs.Labels.{LabelsStand}
+use Rattle.labels.specs.Spreads.{spreadBelow}
 use Rattle.answers.specs.Clashes.{ClashTold}
-use Rattle.answers.specs.Labels.{LabelsStand}
-use Rattle.answers.specs.Spreads.{spreadBelow}
 use Rattle.closure.specs.Trials.{Trying}
 use Rattle.bench.specs.Lists.{Lawful, Held, ListsDerive}
 

@@ -4,7 +4,7 @@ ghost use mathlib.Core.Logic.{_↔_};
 ghost use mathlib.Core.Path.{_≡_};
 ghost use Rattle.fields.specs.Tests.{less};
 ghost use Rattle.selections.specs.Listed.{Selections};
-ghost use Rattle.closure.specs.Stands.{Pairs};
+ghost use Rattle.derivation.specs.Stands.{Pairs};
 ghost use Rattle.bench.specs.Lists.{Below, Lawful};
 ghost use Rattle.bench.specs.Questions.{Questions, Askable};
 

@@ -1,18 +1,18 @@
 // The trials of many questions.
-use crate::derivation::make;
 use crate::lists::askable;
-use answers::Spread;
+use crate::making::make;
 use answers::clash_of;
-use answers::spread_of;
 use closure::trial;
-use facts::ROOM;
-use facts::copy;
+use fields::Feature;
+use fields::Label;
+use fields::Variable;
+use items::Statement;
+use labels::Spread;
+use labels::spread_of;
 use rules::Clash;
 use selections::PLACES;
-use sheet::Feature;
-use sheet::Label;
-use sheet::Statement;
-use sheet::Variable;
+use table::ROOM;
+use table::copy;
 ghost use Prim.Native.Nat.{_<_};
 ghost use lib.ListN.{length};
 ghost use mathlib.Core.Path.{_≡_};

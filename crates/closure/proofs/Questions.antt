@@ -16,21 +16,21 @@ use Rattle.rules.specs.Facts.{Kind, ordered, compatible, fact}
 use Rattle.rules.specs.Tables.{facts}
 use Rattle.rules.specs.Clashes.{clashInRows, clashOf, isClash, clashes}
 use Rattle.rules.proofs.Lists.{all-with}
+use Rattle.table.specs.Queue.{queueRoom}
 use Rattle.facts.specs.Additions.{Said}
-use Rattle.facts.specs.Queue.{queueRoom}
 use Rattle.facts.proofs.Sets.{among-none}
 use Rattle.selections.specs.Groups.{Grouped}
 use Rattle.selections.specs.Stands.{Selected, SelectionsStand}
 use Rattle.selections.proofs.Stands.{ListedIn, one-listed, only-listed, both-selected, statement-selections}
 use Rattle.selections.proofs.Stands.{other-than-selection}
+use Rattle.labels.specs.Spreads.{spreadBelow, canClash}
+use Rattle.labels.proofs.Skip.{skip}
 use Rattle.answers.specs.Cells.{Lent}
 use Rattle.answers.specs.Clashes.{ClashTold, LabelClashTold}
-use Rattle.answers.specs.Spreads.{spreadBelow, canClash}
 use Rattle.answers.proofs.OneLabel.{no-label}
-use Rattle.answers.proofs.Skip.{skip}
+use Rattle.derivation.proofs.Stands.{kindCell, cell-small, statement-pairs, fact-said, said-fact, no-subject}
 use Rattle.closure.specs.Trials.{Nothing, WithOne, before, last, Searched, Tried, TryingFact, TryingSelection}
 use Rattle.closure.specs.Trials.{Restored, Standing, Consistent, Asking}
-use Rattle.closure.proofs.Stands.{kindCell, cell-small, statement-pairs, fact-said, said-fact, no-subject}
 use Rattle.closure.proofs.Tried.{States, still-clashes, tried-answer}
 
 -- the two variables of a fact

@@ -11,9 +11,9 @@ use Rattle.rules.specs.Tables.{says, cellAt, facts}
 use Rattle.rules.specs.Clashes.{clashesAt}
 use Rattle.rules.proofs.Logic.{contrary, last-or-before}
 use Rattle.rules.proofs.Tables.{fact-said}
-use Rattle.facts.specs.Cells.{Cell}
-use Rattle.facts.specs.Queue.{firstOf, secondOf}
-use Rattle.answers.specs.Labels.{LabelsStand, DifferTold}
+use Rattle.table.specs.Cells.{Cell}
+use Rattle.table.specs.Queue.{firstOf, secondOf}
+use Rattle.labels.specs.Labels.{LabelsStand, DifferTold}
 use Rattle.answers.proofs.Logic.{fails-first, second-decides}
 use Rattle.closure.specs.Trials.{Searching, entryClashes, EntryTold, Sought, QueuedClash, QueueTold}
 

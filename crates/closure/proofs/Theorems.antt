@@ -12,17 +12,17 @@ use Rattle.rules.specs.Tables.{facts, countFacts}
 use Rattle.rules.specs.Derived.{derived, factsOf}
 use Rattle.rules.specs.Clashes.{clashInRows, clashOf, isClash, clashes}
 use Rattle.rules.specs.Support.{supported}
-use Rattle.facts.specs.Queue.{queueRoom}
+use Rattle.table.specs.Queue.{queueRoom}
 use Rattle.selections.specs.Listed.{Selections, Listed}
 use Rattle.selections.specs.Places.{Grouping}
 use Rattle.selections.specs.Stands.{SelectionsStand}
 use Rattle.selections.proofs.Theorems.{made-groups, made-spare, made-stand}
+use Rattle.labels.specs.Labels.{LabelsStand}
 use Rattle.answers.specs.Cells.{Lent}
 use Rattle.answers.specs.Clashes.{ClashTold}
-use Rattle.answers.specs.Labels.{LabelsStand}
 use Rattle.answers.specs.Supports.{SingleLabels, SupportTold}
 use Rattle.answers.proofs.OneLabel.{single-labels}
-use Rattle.closure.specs.Stands.{PairsStand, Pairs, Deriving, DerivedFrom}
+use Rattle.derivation.specs.Stands.{PairsStand, Pairs, Deriving, DerivedFrom}
 use Rattle.closure.specs.Trials.{Standing, Tried, Asking}
 
 -- groups made of a selection list

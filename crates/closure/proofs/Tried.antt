@@ -17,14 +17,14 @@ use Rattle.rules.proofs.Derived.{smallest, derived-closed}
 use Rattle.rules.proofs.Lists.{all-with}
 use Rattle.rules.proofs.Logic.{both, first-of, second-of, decided, contrary, same-tests}
 use Rattle.rules.proofs.Tables.{fact-row, fact-column}
-use Rattle.facts.specs.Queue.{firstOf, secondOf, Queued}
+use Rattle.table.specs.Queue.{firstOf, secondOf, Queued}
 use Rattle.facts.specs.Additions.{Facts}
 use Rattle.selections.specs.Stands.{Selected, SelectionsStand}
-use Rattle.answers.specs.Labels.{NoLabelling}
-use Rattle.answers.proofs.Kept.{still, last-stated, stated-of}
+use Rattle.labels.specs.Labels.{NoLabelling}
+use Rattle.labels.proofs.Kept.{still, last-stated, stated-of}
 use Rattle.answers.proofs.OneLabel.{fewer-closed}
+use Rattle.derivation.proofs.Equal.{derived-framed, derived-stated, derived-descends, settled-derived}
 use Rattle.closure.specs.Trials.{entryClashes, QueuedClash, Searched, Standing, Consistent}
-use Rattle.closure.proofs.Equal.{derived-framed, derived-stated, derived-descends, settled-derived}
 
 -- the facts and selections that are tried are those that q states beyond st
 pub record States (n : ℕ) (st : List Statement) (q : Statement) (selected : Selected) (P : Facts) : Type 0 where

@@ -12,16 +12,16 @@ use Rattle.rules.specs.Facts.{Kind, Holds}
 use Rattle.rules.specs.Tables.{facts, Shape}
 use Rattle.rules.proofs.Logic.{last-or-before}
 use Rattle.rules.proofs.Tables.{fact-row, fact-column}
-use Rattle.facts.specs.Queue.{firstOf, secondOf, State, state, Queued, Entry, Ready, queueRoom}
+use Rattle.table.specs.Queue.{firstOf, secondOf, State, state, Queued, Entry, Ready, queueRoom}
 use Rattle.facts.specs.Additions.{Facts, Said, Steps}
 use Rattle.facts.specs.Insertion.{Inserting}
 use Rattle.facts.specs.Restoring.{Restoring}
 use Rattle.facts.proofs.Moving.{wider, carried, moves-then, ready-after}
 use Rattle.selections.specs.Groups.{Grouped}
 use Rattle.selections.specs.Stands.{Selected}
-use Rattle.closure.specs.Settled.{Handed, Starting, Settled}
+use Rattle.derivation.specs.Settled.{Handed, Starting, Settled}
+use Rattle.derivation.proofs.Runs.{tail-bound, handed-on}
 use Rattle.closure.specs.Trials.{Trying, TryingFact, Tries, Queueing, SubjectQueued, Sought, QueueTold, Searched}
-use Rattle.closure.proofs.Runs.{tail-bound, handed-on}
 
 -- as many entries as the pairs of one variable leave room for all facts
 pub few-entries : (n tail count : ℕ) → n ≤ 128 → tail ≤ 2 * n → tail + 2 * (n * n) ≤ queueRoom + count

@@ -11,16 +11,16 @@ use Rattle.rules.specs.Facts.{Kind, Holds}
 use Rattle.rules.specs.Tables.{facts}
 use Rattle.rules.proofs.Logic.{decided}
 use Rattle.rules.proofs.Tables.{fact-row, fact-column}
-use Rattle.facts.specs.Queue.{State, state, Ready}
+use Rattle.table.specs.Queue.{State, state, Ready}
 use Rattle.facts.proofs.Moving.{ready-after, wider}
 use Rattle.selections.specs.declared.trial.Kept.{Kept}
 use Rattle.selections.specs.Groups.{Grouped, groupPlaces}
 use Rattle.selections.specs.Trial.{Put}
 use Rattle.selections.specs.Stands.{Selected}
 use Rattle.selections.proofs.Theorems.{put-groups, put-each, put-no-other}
-use Rattle.closure.specs.Settled.{Handed, Starting, Settled}
+use Rattle.derivation.specs.Settled.{Handed, Starting, Settled}
+use Rattle.derivation.proofs.Runs.{tail-bound}
 use Rattle.closure.specs.Trials.{TryingSelection, Nothing, WithOne, before, last, Tries, Queueing, SubjectQueued}
-use Rattle.closure.proofs.Runs.{tail-bound}
 use Rattle.closure.proofs.Trying.{few-entries}
 
 module _ {n : ℕ} {t queue starts ends features children : List ℕ} {i j : ℕ}

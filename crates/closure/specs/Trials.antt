@@ -11,12 +11,12 @@ use Rattle.rules.specs.Facts.{Kind, Relation, Holds, Within}
 use Rattle.rules.specs.Tables.{facts, Shape}
 use Rattle.rules.specs.Derived.{derived}
 use Rattle.rules.specs.Clashes.{clashesAt, clashes}
-use Rattle.facts.specs.Queue.{firstOf, secondOf, Queued, Entry, queueRoom}
+use Rattle.table.specs.Queue.{firstOf, secondOf, Queued, Entry, queueRoom}
 use Rattle.facts.specs.Additions.{Facts, Framed}
 use Rattle.selections.specs.Groups.{Grouped, Groups, Spare}
 use Rattle.selections.specs.Stands.{Selected, SelectionsStand}
-use Rattle.answers.specs.Labels.{LabelsStand}
-use Rattle.closure.specs.Settled.{Descends}
+use Rattle.labels.specs.Labels.{LabelsStand}
+use Rattle.derivation.specs.Settled.{Descends}
 
 -- a closed table, a queue, and groups with free places
 pub record Trying (n : ℕ) (t queue starts ends features children : List ℕ) : Type 0 where

@@ -1,8 +1,4 @@
-// Closure: from statements to all that the rules give, and a trial with one statement more.
-mod derivation;
-mod descent;
-mod numbers;
+// Closure: the trial of one statement more, and what all is told of statements in the lent arrays.
 mod trials;
 
-pub use derivation::derive;
 pub use trials::trial;

@@ -3,7 +3,7 @@ use Prim.Native.Nat.{ℕ, _+_, _≤_}
 use mathlib.Core.Logic.{_⊎_, inl, inr, ⊎-elim}
 use Rattle.rules.specs.Facts.{Kind, Holds}
 use Rattle.rules.specs.Tables.{facts, Shape}
-use Rattle.facts.specs.Queue.{State}
+use Rattle.table.specs.Queue.{State}
 use Rattle.facts.specs.Additions.{Facts, Either, one, other, Among, Added}
 use Rattle.facts.proofs.Sets.{either-set, among-none, among-to, among-from, among-upto}
 use Rattle.facts.proofs.Moving.{moves-none, moves-then}

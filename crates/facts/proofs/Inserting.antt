@@ -14,8 +14,8 @@ use Rattle.rules.specs.Tables.{says, cellAt, facts, Shape}
 use Rattle.rules.proofs.Cells.{says-nothing}
 use Rattle.rules.proofs.Logic.{decided, contrary}
 use Rattle.rules.proofs.Tables.{fact-row, fact-column, fact-said}
-use Rattle.facts.specs.Cells.{isLacking}
-use Rattle.facts.specs.Queue.{State, state}
+use Rattle.table.specs.Cells.{isLacking}
+use Rattle.table.specs.Queue.{State, state}
 use Rattle.facts.specs.Additions.{Said, Added, Framed, Steps}
 use Rattle.facts.specs.Insertion.{Sides, along, back, RowsTaken, markOf, takenAt, Columns, Rows, Row, Inserting}
 use Rattle.facts.proofs.Joined.{cell-cases, says-already}

@@ -1,8 +1,5 @@
 -- Laws of the fact table, of what is added to it, and of insertion.
-pub mod Places
 pub mod Joined
-pub mod Fills
-pub mod Stores
 pub mod Sets
 pub mod Moving
 pub mod Adding

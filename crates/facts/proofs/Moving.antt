@@ -12,7 +12,7 @@ use Rattle.rules.specs.Facts.{Kind, ordered, compatible, Holds, Within}
 use Rattle.rules.specs.Tables.{facts, Shape, countFacts}
 use Rattle.rules.proofs.Counts.{count-most, count-back, count-bound}
 use Rattle.rules.proofs.Logic.{decided, contrary}
-use Rattle.facts.specs.Queue.{firstOf, secondOf, Queued, Entry, State, factCount, Ready}
+use Rattle.table.specs.Queue.{firstOf, secondOf, Queued, Entry, State, factCount, Ready}
 use Rattle.facts.specs.Additions.{Moves}
 
 -- an entry of the queue, between wider bounds

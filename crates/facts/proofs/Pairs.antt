@@ -11,7 +11,7 @@ use Rattle.rules.specs.Facts.{Kind, compatible}
 use Rattle.rules.specs.Tables.{says}
 use Rattle.rules.proofs.Cells.{says-nothing}
 use Rattle.rules.proofs.Logic.{contrary}
-use Rattle.facts.specs.Queue.{State}
+use Rattle.table.specs.Queue.{State}
 use Rattle.facts.specs.Additions.{Said, Either, one, other, Moves, Added}
 use Rattle.facts.specs.Insertion.{Taking, Sides, along, back, TakingRow, TakingRows, Marked, RowTaken}
 use Rattle.facts.proofs.Moving.{ready-after}

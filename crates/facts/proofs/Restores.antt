@@ -12,10 +12,10 @@ use Rattle.rules.specs.Facts.{Kind, Holds}
 use Rattle.rules.specs.Tables.{says, cellAt, facts}
 use Rattle.rules.proofs.Logic.{decided, same-tests}
 use Rattle.rules.proofs.Tables.{fact-row, fact-column, fact-said, same-facts}
-use Rattle.facts.specs.Cells.{Cell, withCell}
-use Rattle.facts.specs.Queue.{firstOf, secondOf, Queued}
+use Rattle.table.specs.Cells.{Cell, withCell}
+use Rattle.table.specs.Queue.{firstOf, secondOf, Queued}
+use Rattle.table.proofs.Stores.{store-there, store-elsewhere, there-or, store-shape}
 use Rattle.facts.specs.Restoring.{Restoring}
-use Rattle.facts.proofs.Stores.{store-there, store-elsewhere, there-or, store-shape}
 
 module _ {n : ℕ} {other t queue : List ℕ} {from tail : ℕ} (restoring : Restoring n other t queue from tail) where
   -- at the end of the queue

@@ -6,7 +6,7 @@ use Rattle.fields.proofs.Choice.{less-true, less-false}
 use Rattle.rules.specs.Facts.{Kind, Holds}
 use Rattle.rules.specs.Tables.{facts, Shape}
 use Rattle.rules.proofs.Logic.{decided}
-use Rattle.facts.specs.Queue.{State}
+use Rattle.table.specs.Queue.{State}
 use Rattle.facts.specs.Additions.{Facts, Either, one, other, Among, Framed, Steps}
 use Rattle.facts.proofs.Sets.{either-set, among-none, among-to, among-from, among-upto}
 use Rattle.facts.proofs.Moving.{moves-none, moves-then}

@@ -14,12 +14,12 @@ use Rattle.rules.specs.Facts.{Kind, Holds, Within}
 use Rattle.rules.specs.Tables.{says, cellAt, facts, Shape}
 use Rattle.rules.proofs.Logic.{either-first, either-second, either-of}
 use Rattle.rules.proofs.Tables.{fact-row, fact-column, fact-said}
-use Rattle.facts.specs.Cells.{withCell}
-use Rattle.facts.specs.Queue.{firstOf, secondOf, Queued, State, state, factCount, queueRoom}
+use Rattle.table.specs.Cells.{withCell}
+use Rattle.table.specs.Queue.{firstOf, secondOf, Queued, State, state, factCount, queueRoom}
+use Rattle.table.proofs.Stores.{store-there, store-elsewhere, store-shape, there-or}
 use Rattle.facts.specs.Additions.{Said, Added}
 use Rattle.facts.specs.Insertion.{Taking}
 use Rattle.facts.proofs.Joined.{joined-small, joined-says, says-already, gains}
-use Rattle.facts.proofs.Stores.{store-there, store-elsewhere, store-shape, there-or}
 use Rattle.facts.proofs.Moving.{more-facts, fact-bound}
 use Rattle.facts.proofs.Adding.{added-already}
 

@@ -6,7 +6,7 @@ use mathlib.Core.Logic.{_⊎_}
 use mathlib.Core.Path.{_≡_}
 use Rattle.rules.specs.Facts.{Kind, ordered, compatible, Relation, Holds, Within}
 use Rattle.rules.specs.Tables.{says, facts, Shape}
-use Rattle.facts.specs.Queue.{Queued, Entry, State, factCount}
+use Rattle.table.specs.Queue.{Queued, Entry, State, factCount}
 
 -- a set of facts
 abbrev pub Facts : Type 1

@@ -7,8 +7,8 @@ use mathlib.Core.Path.{_≡_}
 use Rattle.fields.specs.Tests.{pick}
 use Rattle.rules.specs.Facts.{Kind, ordered, compatible}
 use Rattle.rules.specs.Tables.{says, cellAt, facts, Shape}
-use Rattle.facts.specs.Cells.{isLacking}
-use Rattle.facts.specs.Queue.{State, Ready}
+use Rattle.table.specs.Cells.{isLacking}
+use Rattle.table.specs.Queue.{State, Ready}
 use Rattle.facts.specs.Additions.{Facts, Said, Among, Framed}
 
 -- a cell w is to be added at x and y

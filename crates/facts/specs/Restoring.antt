@@ -6,7 +6,7 @@ use mathlib.Core.Logic.{_⊎_}
 use mathlib.Core.Path.{_≡_}
 use Rattle.rules.specs.Facts.{Kind, Holds, Within}
 use Rattle.rules.specs.Tables.{facts, Shape}
-use Rattle.facts.specs.Queue.{Queued, Entry, queueRoom}
+use Rattle.table.specs.Queue.{Queued, Entry, queueRoom}
 
 -- each fact that t has beyond the other table is of a pair in the queue, from one place up to another
 pub record Restoring (n : ℕ) (other t queue : List ℕ) (from tail : ℕ) : Type 0 where

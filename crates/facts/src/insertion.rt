@@ -1,15 +1,15 @@
 // Insertion of a fact: the table stays closed under F1 and F3, and each cell that changes is queued.
-use crate::queue::ROOM;
-use crate::queue::push;
-use crate::table::lacks;
-use crate::table::look;
-use crate::table::says_ordered;
-use crate::table::store;
+use table::ROOM;
+use table::lacks;
+use table::look;
+use table::push;
+use table::says_ordered;
+use table::store;
 ghost use Prim.Native.Nat.{_<_};
 ghost use lib.ListN.{length};
 ghost use mathlib.Core.Path.{_≡_};
-ghost use Rattle.facts.specs.Cells.{Cell};
-ghost use Rattle.facts.specs.Queue.{state, Ready};
+ghost use Rattle.table.specs.Cells.{Cell};
+ghost use Rattle.table.specs.Queue.{state, Ready};
 ghost use Rattle.facts.specs.Additions.{Said, Among, Added, Steps};
 ghost use Rattle.facts.specs.Insertion.{Taking, TakingRow, TakingRows, Sides, RowTaken, Marked, RowsTaken};
 ghost use Rattle.facts.specs.Insertion.{Inserting};

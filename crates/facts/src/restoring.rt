@@ -1,14 +1,14 @@
 // The way back: a table that grew is made the one again that it grew from.
-use crate::queue::ROOM;
-use crate::queue::first_of;
-use crate::queue::second_of;
-use crate::table::copy;
-use crate::table::look;
-use crate::table::store;
+use table::ROOM;
+use table::copy;
+use table::first_of;
+use table::look;
+use table::second_of;
+use table::store;
 ghost use mathlib.Core.Path.{_≡_};
 ghost use Rattle.rules.specs.Tables.{cellAt};
-ghost use Rattle.facts.specs.Cells.{Cell, withCell};
-ghost use Rattle.facts.specs.Queue.{firstOf, secondOf};
+ghost use Rattle.table.specs.Cells.{Cell, withCell};
+ghost use Rattle.table.specs.Queue.{firstOf, secondOf};
 ghost use Rattle.facts.specs.Restoring.{Restoring};
 
 // Gives the pair of an entry its cell of the other table.

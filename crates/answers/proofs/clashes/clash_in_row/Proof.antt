@@ -8,8 +8,8 @@ use native.Mathlib.Nat.{sub-zero}
 use Rattle.items.specs.declared.items.Statement.{Statement}
 use Rattle.rules.specs.Clashes.{clashInRow}
 use Rattle.rules.specs.Tables.{facts}
-use Rattle.answers.specs.Labels.{LabelsStand}
-use Rattle.answers.proofs.Kept.{none-differ}
+use Rattle.labels.specs.Labels.{LabelsStand}
+use Rattle.labels.proofs.Kept.{none-differ}
 use Rattle.answers.proofs.Clashed.{applies, not-alike, not-different, row-here, row-on, row-over, row-clear}
 use Rattle.answers.proofs.clashes.clash_in_row.Statement.{statement}
 use Rattle.answers.proofs.clashes.clash_in_row.Tie as tie

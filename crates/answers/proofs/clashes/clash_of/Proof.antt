@@ -8,7 +8,7 @@ use native.Mathlib.Nat.{sub-zero}
 use Rattle.items.specs.declared.items.Statement.{Statement}
 use Rattle.rules.specs.Clashes.{clashInRows}
 use Rattle.rules.specs.Tables.{facts}
-use Rattle.answers.specs.Labels.{LabelsStand}
+use Rattle.labels.specs.Labels.{LabelsStand}
 use Rattle.answers.proofs.Clashed.{rows-here, rows-on, rows-over}
 use Rattle.answers.proofs.clashes.clash_of.Statement.{statement}
 use Rattle.answers.proofs.clashes.clash_of.Tie as tie

@@ -8,7 +8,7 @@ use Rattle.items.specs.declared.items.Statement.{Statement}
 use Rattle.rules.specs.Stated.{anyBelow}
 use Rattle.rules.specs.Tables.{facts}
 use Rattle.rules.proofs.Logic.{both}
-use Rattle.answers.specs.Labels.{LabelsStand}
+use Rattle.labels.specs.Labels.{LabelsStand}
 use Rattle.answers.proofs.Logic.{fails-first, fails-second, found-below, on-below, over-below}
 use Rattle.answers.proofs.OneLabel.{meets, label-clash}
 use Rattle.answers.proofs.clashes.label_clashes.Statement.{statement}

@@ -1,6 +1,6 @@
 -- `closure::trials::try_where_labels_differ` meets its contract.
 use mathlib.Core.Path.{sym, ap, _∙_}
-use Rattle.answers.specs.Spreads.{canClash}
+use Rattle.labels.specs.Spreads.{canClash}
 use Rattle.closure.proofs.Questions.{skip-told, untouched}
 use Rattle.closure.proofs.trials.try_where_labels_differ.Statement.{statement}
 use Rattle.closure.proofs.trials.try_where_labels_differ.Tie as tie

@@ -2,7 +2,7 @@
 use Prim.Native.Nat.{_≤_, _-_}
 use mathlib.Core.Path.{sym, _∙_}
 use native.Mathlib.Omega.{arith}
-use Rattle.facts.specs.Queue.{state}
+use Rattle.table.specs.Queue.{state}
 use Rattle.facts.specs.Additions.{Said, Among, Added}
 use Rattle.facts.proofs.Moving.{ready-after}
 use Rattle.facts.proofs.Adding.{added-start, added-next, added-end}

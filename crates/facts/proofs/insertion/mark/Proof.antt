@@ -4,7 +4,7 @@ use mathlib.Core.Path.{refl, sym, ap, _∙_}
 use Rattle.fields.proofs.Choice.{chosen, passed}
 use Rattle.rules.specs.Facts.{ordered}
 use Rattle.rules.specs.Tables.{says}
-use Rattle.facts.specs.Cells.{isLacking}
+use Rattle.table.specs.Cells.{isLacking}
 use Rattle.facts.specs.Insertion.{markOf}
 use Rattle.facts.proofs.insertion.mark.Statement.{statement}
 use Rattle.facts.proofs.insertion.mark.Tie as tie

@@ -3,8 +3,8 @@ use Prim.Native.Nat.{_≤_, _-_}
 use lib.ListN.{length, length-set}
 use mathlib.Core.Path.{_≡_, _∙_}
 use native.Mathlib.Omega.{arith}
+use Rattle.table.proofs.Fills.{Filled, filled-none, filled-next}
 use Rattle.facts.specs.Insertion.{markOf}
-use Rattle.facts.proofs.Fills.{Filled, filled-none, filled-next}
 use Rattle.facts.proofs.insertion.read_column.Statement.{statement}
 use Rattle.facts.proofs.insertion.read_column.Tie as tie
 

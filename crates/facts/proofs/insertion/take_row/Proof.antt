@@ -3,7 +3,7 @@ use Prim.Native.Nat.{_≤_, _-_}
 use lib.ListN.{getD}
 use mathlib.Core.Path.{sym, _∙_}
 use native.Mathlib.Omega.{arith}
-use Rattle.facts.specs.Queue.{state}
+use Rattle.table.specs.Queue.{state}
 use Rattle.facts.specs.Additions.{Among, Added}
 use Rattle.facts.specs.Insertion.{Sides}
 use Rattle.facts.proofs.Adding.{added-start, added-next, added-end}
