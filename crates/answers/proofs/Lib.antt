@@ -1,4 +1,4 @@
--- Laws of what is told.
+-- Laws of what is told of a closed fact table.
 pub mod Logic
 pub mod Clashed
 pub mod OneLabel

@@ -2,11 +2,11 @@
 use Prim.Native.Nat.{ℕ}
 use lib.ListN.{length}
 use mathlib.Core.List.{List}
-use mathlib.Core.Path.{_≡_, sym, _∙_}
+use mathlib.Core.Path.{_≡_}
 use Rattle.rules.specs.declared.clashes.Clash.{Clash}
 use Rattle.table.specs.Queue.{queueRoom}
 use Rattle.selections.specs.Listed.{Selections}
-use Rattle.selections.proofs.Theorems.{made-groups, made-spare, made-stand}
+use Rattle.selections.proofs.Theorems.{made-groups, made-spare}
 use Rattle.labels.specs.declared.spread.Spread.{Spread}
 use Rattle.labels.specs.Spreads.{spreadBelow}
 use Rattle.answers.specs.Cells.{Lent}

@@ -9,8 +9,8 @@ use native.Mathlib.Omega.{arith}
 use Rattle.rules.proofs.Logic.{contrary, last-or-before}
 use Rattle.selections.specs.Listed.{Selections}
 use Rattle.derivation.specs.Stands.{Pairs}
-use Rattle.bench.specs.Lists.{Below, Lawful}
-use Rattle.bench.specs.Questions.{Questions, Askable}
+use Rattle.bench.specs.Lists.{Below}
+use Rattle.bench.specs.Questions.{Questions}
 
 -- what is not so is refused
 pub refusal : {A : Type 0} → (A → ⊥) → (false ≡ true) ↔ A

@@ -1,4 +1,4 @@
--- Laws of descent, of the run, of derivation and of trials, and how statements come to stand in the lists.
+-- Laws of trials, and all that is told of statements in the lent arrays.
 pub mod Trying
 pub mod Searches
 pub mod TryingSelection

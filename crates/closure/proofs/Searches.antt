@@ -15,7 +15,7 @@ use Rattle.table.specs.Cells.{Cell}
 use Rattle.table.specs.Queue.{firstOf, secondOf}
 use Rattle.labels.specs.Labels.{LabelsStand, DifferTold}
 use Rattle.answers.proofs.Logic.{fails-first, second-decides}
-use Rattle.closure.specs.Trials.{Searching, entryClashes, EntryTold, Sought, QueuedClash, QueueTold}
+use Rattle.closure.specs.Trials.{Searching, entryClashes, EntryTold, Sought, QueueTold}
 
 -- one entry, whose variables were taken from it
 module _ {n : ℕ} {t : List ℕ} {entry : ℕ} (searching : Searching n t entry) (i j : ℕ) (first : i ≡ firstOf entry)

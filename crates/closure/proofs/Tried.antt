@@ -4,7 +4,7 @@ use lib.ListN.{getD}
 use mathlib.Core.Bool.{Bool, true}
 use mathlib.Core.List.{List, [], _∷_, _++_}
 use mathlib.Core.Logic.{_⊎_, ⊎-elim}
-use mathlib.Core.Path.{_≡_, sym, subst, _∙_}
+use mathlib.Core.Path.{_≡_, sym, subst}
 use Rattle.items.specs.declared.items.Statement.{Statement}
 use Rattle.items.specs.Statements.{Names, AllName}
 use Rattle.rules.specs.Stated.{labelling, Stated}

@@ -1,2 +1,2 @@
--- Descent to children, the run of the queue, derivation and trials.
+-- Trials.
 pub mod Trials

@@ -1,4 +1,4 @@
--- Laws of the fact table, of what is added to it, and of insertion.
+-- Laws of what is added to the fact table, of insertion, and of the way back.
 pub mod Joined
 pub mod Sets
 pub mod Moving

@@ -1,4 +1,4 @@
--- The fact table, cell by cell, the queue of changed cells, and what is added to both.
+-- What is added to the fact table and to the queue, insertion, and the way back.
 pub mod Additions
 pub mod Insertion
 pub mod Restoring

@@ -1,5 +1,4 @@
 -- `bench::lists::askable` meets its contract.
-use borrow.Author.Needs.{needs}
 use Rattle.bench.proofs.Judged.{refusal, failed, passes, last-test}
 use Rattle.bench.proofs.lists.askable.Statement.{statement}
 use Rattle.bench.proofs.lists.askable.Tie as tie

@@ -1,5 +1,4 @@
 -- `bench::lists::lawful` meets its contract.
-use borrow.Author.Needs.{needs}
 use native.Mathlib.Nat.{mul-le-mul}
 use native.Mathlib.Omega.{arith}
 use Rattle.bench.proofs.Judged.{refusal, failed, passes, last-test}

@@ -1,5 +1,4 @@
 -- `bench::lists::pairs_lawful` meets its contract.
-use borrow.Author.Needs.{needs}
 use Rattle.bench.proofs.Judged.{refusal, failed, passes, last-test, pairs-by, pairs-small, pairs-left}
 use Rattle.bench.proofs.Judged.{pairs-right}
 use Rattle.bench.proofs.lists.pairs_lawful.Statement.{statement}

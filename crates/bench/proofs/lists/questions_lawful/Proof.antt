@@ -1,5 +1,4 @@
 -- `bench::lists::questions_lawful` meets its contract.
-use borrow.Author.Needs.{needs}
 use Rattle.bench.proofs.Judged.{refusal, failed, passes, last-test, questions-by, questions-first}
 use Rattle.bench.proofs.Judged.{questions-second}
 use Rattle.bench.proofs.lists.questions_lawful.Statement.{statement}

@@ -1,5 +1,4 @@
 -- `bench::lists::selections_lawful` meets its contract.
-use borrow.Author.Needs.{needs}
 use native.Mathlib.Omega.{arith}
 use Rattle.bench.proofs.Judged.{refusal, failed, passes, last-test, selections-by, selections-subject}
 use Rattle.bench.proofs.Judged.{selections-child}

@@ -1,6 +1,6 @@
 -- `bench::making::bench_derive` meets its contract: what is not lawful is refused, with the table as it was.
 use borrow.Author.Needs.{needs}
-use mathlib.Core.Path.{refl, sym, _∙_}
+use mathlib.Core.Path.{refl}
 use Rattle.rules.proofs.Logic.{contrary}
 use Rattle.bench.proofs.making.bench_derive.Statement.{statement}
 use Rattle.bench.proofs.making.bench_derive.Tie as tie

@@ -1,6 +1,6 @@
 -- `bench::trials::bench_trials` meets its contract: what is not lawful is refused, with all as it was.
 use borrow.Author.Needs.{needs}
-use mathlib.Core.Path.{refl, sym, _∙_}
+use mathlib.Core.Path.{refl}
 use Rattle.rules.proofs.Logic.{contrary}
 use Rattle.bench.proofs.trials.bench_trials.Statement.{statement}
 use Rattle.bench.proofs.trials.bench_trials.Tie as tie

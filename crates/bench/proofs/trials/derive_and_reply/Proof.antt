@@ -1,6 +1,6 @@
 -- `bench::trials::derive_and_reply` meets its contract: what the groups reply is what the lists reply.
 use borrow.Author.Needs.{needs}
-use mathlib.Core.Path.{refl, sym, ap, _∙_}
+use mathlib.Core.Path.{refl}
 use Rattle.bench.proofs.Grouped.{lists-derive, lists-lent, prepared, lists-replies}
 use Rattle.bench.proofs.trials.derive_and_reply.Statement.{statement}
 use Rattle.bench.proofs.trials.derive_and_reply.Tie as tie

@@ -1,5 +1,5 @@
 -- `facts::restoring::restore_queued` meets its contract: with each turn one entry less is in the way.
-use Prim.Native.Nat.{_≤_, _-_}
+use Prim.Native.Nat.{_-_}
 use mathlib.Core.Path.{sym, _∙_}
 use native.Mathlib.Omega.{arith}
 use Rattle.facts.specs.Restoring.{Restoring}
