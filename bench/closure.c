@@ -256,29 +256,28 @@ static double least(double a, double b)
     return a < b ? a : b;
 }
 
-// Runs both by turns and prints the least time of each: how much longer the engine takes.
-static double compare(const struct job *reference, const struct job *engine)
+// Runs both by turns and prints the least time of each.
+static void compare(const struct job *reference, const struct job *engine)
 {
     double once = least(timed(reference, 1), timed(reference, 1));
     size_t times = 1 + 4e6 / once;
-    size_t rounds = once * times > 5e7 ? 8 : 40;
+    size_t rounds = once * times > 5e7 ? 3 : 12;
     double best[2] = { timed(reference, times), timed(engine, times) };
     for (size_t k = 0; k < rounds; k++) {
         best[0] = least(best[0], timed(reference, times));
         best[1] = least(best[1], timed(engine, times));
     }
-    printf(" %13.0f %13.0f %6.2f", best[0], best[1], best[1] / best[0]);
+    printf(";%.0f;%.0f", best[0], best[1]);
     fflush(stdout);
-    return best[1] / best[0];
 }
 
 // Two jobs on the same input.
 static struct job jobs[2];
 
-static double compare_both(bool trials)
+static void compare_both(bool trials)
 {
     jobs[0].trials = jobs[1].trials = trials;
-    return compare(&jobs[0], &jobs[1]);
+    compare(&jobs[0], &jobs[1]);
 }
 
 // Stops where the two differ in a table or in a reply.
@@ -297,31 +296,26 @@ static void agree(const struct family *family, const struct input *in)
         die(family, in->n, "the replies differ");
 }
 
-static double measure(const struct family *family, size_t n)
+// One line: family, size, derivation and derivation with trials, each by the reference and by the engine.
+static void measure(const struct family *family, size_t n)
 {
     static struct input in;
     generate(&in, family, n);
     agree(family, &in);
-    printf("%-26s %3zu", family->name, n);
-    double derivation = compare_both(false), trials = compare_both(true);
+    printf("%s;%zu", family->name, n);
+    compare_both(false);
+    compare_both(true);
     printf("\n");
-    return derivation > trials ? derivation : trials;
 }
 
 int main(void)
 {
     static uint8_t tables[4][VARIABLES * VARIABLES], replies[2][QUESTIONS];
     static const size_t sizes[] = { 32, 64, 128 };
-    double greatest = 0;
     for (int k = 0; k < 2; k++)
         jobs[k] = (struct job) { NULL, k == 1, false, tables[2 * k], tables[2 * k + 1], replies[k] };
-    printf("%-26s %3s %13s %13s %6s %13s %13s %6s\n", "family", "n", "derive C ns", "engine ns", "ratio",
-        "+ trials C ns", "engine ns", "ratio");
     for (size_t f = 0; f < sizeof families / sizeof *families; f++)
-        for (size_t s = 0; s < 3; s++) {
-            double ratio = measure(&families[f], sizes[s]);
-            greatest = ratio > greatest ? ratio : greatest;
-        }
-    printf("greatest ratio %.2f\n", greatest);
+        for (size_t s = 0; s < 3; s++)
+            measure(&families[f], sizes[s]);
     return 0;
 }

@@ -20,7 +20,8 @@ use Rattle.facts.proofs.Inserting.{has-all}
 use Rattle.facts.proofs.Moving.{moves-none, ready-after}
 use Rattle.facts.proofs.Stepping.{steps-already, steps-as, steps-start, steps-next, Along, along-start, along-next}
 use Rattle.facts.proofs.Stepping.{along-pass, steps-pass, steps-along}
-use Rattle.derivation.specs.Descent.{Under, UnderAll, HandedDown, Running, Handing, isNew, Seeking, NextNew, Visiting}
+use Rattle.derivation.specs.Descent.{Under, UnderAll, HandedDown, Running, Handing, isNew, Seeking, NextNew}
+use Rattle.derivation.specs.Descent.{SeekingRow, NextRow, Visiting}
 use Rattle.derivation.specs.Descent.{Visited}
 
 -- a place that is not new has nothing to tell, and a new one has the feature
@@ -242,6 +243,130 @@ module _ {n : ℕ} {t features children : List ℕ} {w f i from end : ℕ} where
           passed = searched .passed;
           found = found;
         }
+
+-- a search, row by row
+module _ {n : ℕ} {t children : List ℕ} {first last from end : ℕ} (seeking : SeekingRow n t children first last from end)
+  where
+    pub row-start : {features : List ℕ} {w : ℕ} → NextRow n t features children w first last from end from
+    row-start =
+        record { behind = omega arith; inside = λ k h g. absurd (omega arith); passed = λ k h g. absurd (omega arith) }
+
+    module _ {features : List ℕ} {w at : ℕ} (so-far : NextRow n t features children w first last from end at)
+        (h : at < end) (x : ℕ) (e : x ≡ getD children at 0) where
+      pub row-seek : Seeking n t children x first last
+      row-seek =
+          record {
+            few = seeking .few;
+            shape = seeking .shape;
+            child = rw e (seeking .rows at (so-far .behind) h);
+            room = seeking .room;
+            others = seeking .others;
+          }
+
+      pub row-next : {r : ℕ} → NextNew n t features children w (getD features at 0) x first last r → last ≤ r
+          → NextRow n t features children w first last from end (at + 1)
+      row-next sought none =
+          record {
+            behind = omega (arith, so-far .behind);
+            inside = λ k a b. omega arith;
+            passed = λ k a b y c d.
+                last-or-before k at (omega arith)
+                (λ here. rw (here, ← e) (sought .passed y c (omega arith)))
+                (λ before. so-far .passed k a before y c d);
+          }
+
+-- the rows of u, with the group of v
+module _ {n : ℕ} {s s′ : State} {starts ends features children : List ℕ} {w u v : ℕ}
+    (handing : Handing n s starts ends features children w u v) (moves : Moves n s s′) (k : ℕ)
+    (from : getD starts u 0 ≤ k) where
+  pub rows-there : SeekingRow n (s′ .table) children (getD starts v 0) (getD ends v 0) k (getD ends u 0)
+  rows-there =
+      let groups = handing .running .groups in
+      record {
+        few = handing .running .ready .few;
+        shape = moves .shape;
+        row-room = groups .inside u (handing .first);
+        room = groups .inside v (handing .second);
+        rows = λ x h g. groups .below u x (handing .first) (omega arith) g;
+        others = λ x h g. groups .below v x (handing .second) h g;
+      }
+
+  -- rows that are passed have nothing to tell
+  pub passed-rows : (at : ℕ)
+      → NextRow n (s′ .table) features children w (getD starts v 0) (getD ends v 0) k (getD ends u 0) at
+      → (x : ℕ) → k ≤ x → x < at → (kind : Kind) (a b : ℕ)
+      → UnderAll starts ends features children w (getD features x 0) (getD children x 0) v kind a b
+      → Holds (facts n (s′ .table)) kind a b
+  passed-rows at sought x h g kind a b all =
+      let seeking = rows-there in
+      not-new n (s′ .table) features children w (getD features x 0) (getD children x 0) (all .at) (moves .shape)
+      (handing .cell) (seeking .rows x h (sought .inside x h g)) (seeking .others (all .at) (all .behind) (all .ahead))
+      (sought .passed x h g (all .at) (all .behind) (all .ahead)) kind a b (all .holds)
+
+-- w is handed down from u and v, up to a place of the group of u
+pub record HandedUpto (n : ℕ) (starts ends features children : List ℕ) (w u v : ℕ) (s s′ : State) (at : ℕ) : Type 0
+  where
+    pub along : Along (getD starts u 0) at (getD ends u 0)
+    pub steps : Steps n
+        (Among (getD starts u 0) at
+        (λ k. UnderAll starts ends features children w (getD features k 0) (getD children k 0) v)) s s′
+
+module _ {n : ℕ} {s : State} {starts ends features children : List ℕ} {w u v : ℕ}
+    (handing : Handing n s starts ends features children w u v) where
+  -- from one place on, once what lies before it is handed down
+  handed-pass : {s′ : State} (k at : ℕ) → HandedUpto n starts ends features children w u v s s′ k
+      → NextRow n (s′ .table) features children w (getD starts v 0) (getD ends v 0) k (getD ends u 0) at
+      → HandedUpto n starts ends features children w u v s s′ at
+  handed-pass k at handed sought =
+      record {
+        along = along-pass at (handed .along) (sought .behind) (sought .inside);
+        steps =
+            steps-pass (λ x. UnderAll starts ends features children w (getD features x 0) (getD children x 0) v) at
+            (sought .behind)
+            (passed-rows handing (handed .steps .moves) k (handed .along .behind) at sought) (handed .steps);
+      }
+
+  none-handed : HandedUpto n starts ends features children w u v s s (getD starts u 0)
+  none-handed =
+      record {
+        along = along-start _ _;
+        steps = steps-start _ _ s (handing .running .ready .shape) (handing .running .framed);
+      }
+
+  pub rows-first : SeekingRow n (s .table) children (getD starts v 0) (getD ends v 0) (getD starts u 0) (getD ends u 0)
+  rows-first = rows-there handing (moves-none s (handing .running .ready .shape)) _ (omega arith)
+
+  pub handed-first : (at : ℕ)
+      → NextRow n (s .table) features children w (getD starts v 0) (getD ends v 0) (getD starts u 0) (getD ends u 0) at
+      → HandedUpto n starts ends features children w u v s s at
+  handed-first at sought = handed-pass _ at none-handed sought
+
+  module _ {s′ s″ : State} {at : ℕ} (handed : HandedUpto n starts ends features children w u v s s′ at)
+      (h : at < getD ends u 0) (x : ℕ) (e : x ≡ getD children at 0)
+      (steps : Steps n (UnderAll starts ends features children w (getD features at 0) x v) s′ s″) where
+    more-handed : HandedUpto n starts ends features children w u v s s″ (at + 1)
+    more-handed =
+        record {
+          along = along-next (handed .along) h;
+          steps =
+              steps-next _ _ at (handed .along .behind) (handed .steps)
+              (handed-steps starts ends features children w (getD features at 0) v x at e steps);
+        }
+
+    pub rows-next : SeekingRow n (s″ .table) children (getD starts v 0) (getD ends v 0) (at + 1) (getD ends u 0)
+    rows-next = rows-there handing (more-handed .steps .moves) (at + 1) (more-handed .along .behind)
+
+    pub handed-next : (next : ℕ)
+        → NextRow n (s″ .table) features children w (getD starts v 0) (getD ends v 0) (at + 1) (getD ends u 0) next
+        → HandedUpto n starts ends features children w u v s s″ next
+    handed-next next sought = handed-pass (at + 1) next more-handed sought
+
+pub handed-all : {n : ℕ} {s s′ : State} {starts ends features children : List ℕ} {w u v at : ℕ}
+    → HandedUpto n starts ends features children w u v s s′ at → getD ends u 0 ≤ at
+    → Steps n (HandedDown starts ends features children w u v) s s′
+handed-all {starts = starts} {ends = ends} {features = features} {children = children} {w = w} {v = v} handed h =
+    steps-along (λ k. UnderAll starts ends features children w (getD features k 0) (getD children k 0) v)
+    (handed .along) h (handed .steps)
 
 -- w is told of i and the children of v at f, up to a place that has the feature
 pub record ToldUpto (n : ℕ) (starts ends features children : List ℕ) (w f i v : ℕ) (s s′ : State)

@@ -68,6 +68,22 @@ pub record NextNew (n : ℕ) (t features children : List ℕ) (w f i from end at
   pub passed : (k : ℕ) → from ≤ k → k < at → isNew n t features children w f i k ≡ false
   pub found : at < end → isNew n t features children w f i at ≡ true
 
+-- the same of the children at each place up to an end, with those at the places from first to last
+pub record SeekingRow (n : ℕ) (t children : List ℕ) (first last from end : ℕ) : Type 0 where
+  pub few : n ≤ 128
+  pub shape : Shape n t
+  pub row-room : end ≤ groupPlaces
+  pub room : last ≤ groupPlaces
+  pub rows : (k : ℕ) → from ≤ k → k < end → getD children k 0 < n
+  pub others : (x : ℕ) → first ≤ x → x < last → getD children x 0 < n
+
+-- at no place before this one is there anything to tell
+pub record NextRow (n : ℕ) (t features children : List ℕ) (w first last from end at : ℕ) : Type 0 where
+  pub behind : from ≤ at
+  pub inside : (k : ℕ) → from ≤ k → k < at → k < end
+  pub passed : (k : ℕ) → from ≤ k → k < at → (x : ℕ) → first ≤ x → x < last
+      → isNew n t features children w (getD features k 0) (getD children k 0) x ≡ false
+
 -- an entry of the queue is to be visited
 pub record Visiting (n : ℕ) (s : State) (starts ends features children : List ℕ) (entry : ℕ) : Type 0 where
   pub running : Running n s starts ends features children

@@ -12,6 +12,7 @@ ghost use Rattle.table.specs.Queue.{state};
 ghost use Rattle.facts.specs.Additions.{Steps};
 ghost use Rattle.selections.specs.Groups.{Grouped};
 ghost use Rattle.derivation.specs.Descent.{UnderAll, HandedDown, Handing, Telling, isNew, Seeking, NextNew};
+ghost use Rattle.derivation.specs.Descent.{SeekingRow, NextRow};
 ghost use Rattle.derivation.specs.Descent.{Visiting, Visited};
 ghost use Rattle.derivation.specs.Settled.{Starting, Settled};
 
@@ -91,6 +92,45 @@ fn tell_all(
     next
 }
 
+// The first place from one on, up to an end, whose child w is not told yet of with a child at the same feature, among
+// the places from first to last.
+fn seek_row(
+    t: &[u8],
+    n: usize,
+    w: u8,
+    features: &[u16; PLACES],
+    children: &[u8; PLACES],
+    first: usize,
+    last: usize,
+    from: usize,
+    end: usize,
+) -> usize
+    requires { ⌜ SeekingRow n (now t) (now children) first last from end ⌝ }
+    ensures { λ r. ⌜ NextRow n (now (t .entry)) (now (features .entry)) (now (children .entry)) w first last from end
+        r ⌝ }
+{
+    let mut at = from;
+    while at < end {
+        if seek(
+            t,
+            n,
+            w,
+            features[at],
+            wide(children[at]),
+            features,
+            children,
+            first,
+            last,
+        )
+            < last
+        {
+            return at;
+        }
+        at += 1;
+    }
+    at
+}
+
 // Hands w down from u and v.
 fn hand_down(
     t: &mut [u8],
@@ -111,9 +151,11 @@ fn hand_down(
         (HandedDown (now (starts .entry)) (now (ends .entry)) (now (features .entry)) (now (children .entry)) w u v)
         (state (now (t .entry)) (now (queue .entry)) tail) (state (now (t .exit)) (now (queue .exit)) r) ⌝ }
 {
+    let first = starts[v];
+    let last = ends[v];
     let end = ends[u];
     let mut next = tail;
-    let mut at = starts[u];
+    let mut at = seek_row(t, n, w, features, children, first, last, starts[u], end);
     while at < end {
         next = tell_all(
             t,
@@ -129,7 +171,7 @@ fn hand_down(
             queue,
             next,
         );
-        at += 1;
+        at = seek_row(t, n, w, features, children, first, last, at + 1, end);
     }
     next
 }
