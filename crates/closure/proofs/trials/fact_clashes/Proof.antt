@@ -21,7 +21,10 @@ restore-requires c κs =
     (start .pre .0 .trying .shape)
 
 same-length : tie.Need-same-length
-same-length c = c .before .t2 .given ∙ c .before .before .before .before .before .before .before .before .before .t .given
+same-length c =
+    let at-t2 = c .before in
+    let at-t = at-t2 .before .before .before .before .before .before .before .before in
+    at-t2 .t2 .given ∙ at-t .t .given
 
 returns : tie.Need-returns
 returns c =

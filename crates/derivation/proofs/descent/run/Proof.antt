@@ -1,11 +1,11 @@
--- `derivation::descent::run` meets its contract: with each turn one more entry is visited, and there are no more than fit.
+-- `derivation::descent::run` meets its contract: with each turn one more entry is visited, and no more than fit.
 use Prim.Native.Nat.{_-_}
 use mathlib.Core.Path.{refl, sym, _∙_}
 use native.Mathlib.Omega.{arith}
 use Rattle.table.specs.Queue.{state, queueRoom}
 use Rattle.selections.specs.Groups.{Grouped}
-use Rattle.derivation.proofs.Runs.{tail-bound, Halfway, halfway-start, halfway-ready, halfway-visit, halfway-next}
-use Rattle.derivation.proofs.Runs.{halfway-end}
+use Rattle.derivation.proofs.Runs.{tail-bound, Halfway, halfway-start, halfway-ready, halfway-visit}
+use Rattle.derivation.proofs.Runs.{halfway-next, halfway-end}
 use Rattle.derivation.proofs.descent.run.Statement.{statement}
 use Rattle.derivation.proofs.descent.run.Tie as tie
 
