@@ -1,9 +1,8 @@
 -- The search for the first clash, row by row and column by column.
-use Prim.Native.Nat.{ℕ, zero, suc, _+_, _-_, _<_, _≤_}
+use Prim.Native.Nat.{ℕ, zero, suc, _<_, _≤_}
 use mathlib.Core.Bool.{true, false}
 use mathlib.Core.List.{List}
 use mathlib.Core.Path.{_≡_, refl}
-use native.Mathlib.Numerals.{add-one}
 use native.Mathlib.Omega.{arith}
 use Rattle.fields.specs.declared.numbers.Variable.{Variable}
 use Rattle.fields.specs.Fields.{variable}
@@ -36,35 +35,39 @@ unfolding clashInRow
 row-clear st r i h zero j = refl
 row-clear st r i h (suc left) j = passed _ _ _ (h j) (row-clear st r i h left (suc j))
 
-module _ (st : List Statement) (r : Relation) (n : ℕ) where
-  -- a row of n columns from column j on
+module _ (st : List Statement) (r : Relation) where
+  -- as many columns of row i, from column j on
   module _ (i j : ℕ) where
-    pub row-here : j < n → clashesAt st r i j ≡ true
-        → Clash.Between (variable i) (variable j) ≡ clashInRow (n - j) j st r i
+    pub row-here : (left : ℕ) → 0 < left → clashesAt st r i j ≡ true
+        → Clash.Between (variable i) (variable j) ≡ clashInRow left j st r i
     unfolding clashInRow
-    row-here h p = let e : n - j ≡ suc (n - (j + 1)) = omega arith in rw e (chosen _ _ _ p refl)
+    row-here zero h p = absurd (omega arith)
+    row-here (suc m) h p = chosen _ _ _ p refl
 
-    pub row-on : j < n → clashesAt st r i j ≡ false
-        → clashInRow (n - (j + 1)) (j + 1) st r i ≡ clashInRow (n - j) j st r i
+    pub row-on : (left rest next : ℕ) → left ≡ suc rest → next ≡ suc j → clashesAt st r i j ≡ false
+        → clashInRow rest next st r i ≡ clashInRow left j st r i
     unfolding clashInRow
-    row-on h p = let e : n - j ≡ suc (n - (j + 1)) = omega arith in rw (e, add-one j) (passed _ _ _ p refl)
+    row-on left rest next e f p = rw (e, f) (passed _ _ _ p refl)
 
-    pub row-over : n ≤ j → Clash.Nowhere ≡ clashInRow (n - j) j st r i
+    pub row-over : (left : ℕ) → left ≤ 0 → Clash.Nowhere ≡ clashInRow left j st r i
     unfolding clashInRow
-    row-over h = let e : n - j ≡ 0 = omega arith in rw e
+    row-over zero h = refl
+    row-over (suc m) h = absurd (omega arith)
 
-  -- rows from row i on
-  module _ (i : ℕ) where
-    pub rows-here : {x y : Variable} → i < n → Clash.Between x y ≡ clashInRow n 0 st r i
-        → Clash.Between x y ≡ clashInRows (n - i) i n st r
+  -- as many rows of n columns, from row i on
+  module _ (n i : ℕ) where
+    pub rows-here : {x y : Variable} (left : ℕ) → 0 < left → Clash.Between x y ≡ clashInRow n 0 st r i
+        → Clash.Between x y ≡ clashInRows left i n st r
     unfolding clashInRows
-    rows-here h p = let e : n - i ≡ suc (n - (i + 1)) = omega arith in rw (e, ← p)
+    rows-here zero h p = absurd (omega arith)
+    rows-here (suc m) h p = rw (← p)
 
-    pub rows-on : i < n → Clash.Nowhere ≡ clashInRow n 0 st r i
-        → clashInRows (n - (i + 1)) (i + 1) n st r ≡ clashInRows (n - i) i n st r
+    pub rows-on : (left rest next : ℕ) → left ≡ suc rest → next ≡ suc i → Clash.Nowhere ≡ clashInRow n 0 st r i
+        → clashInRows rest next n st r ≡ clashInRows left i n st r
     unfolding clashInRows
-    rows-on h p = let e : n - i ≡ suc (n - (i + 1)) = omega arith in rw (e, add-one i, ← p)
+    rows-on left rest next e f p = rw (e, f, ← p)
 
-    pub rows-over : n ≤ i → Clash.Nowhere ≡ clashInRows (n - i) i n st r
+    pub rows-over : (left : ℕ) → left ≤ 0 → Clash.Nowhere ≡ clashInRows left i n st r
     unfolding clashInRows
-    rows-over h = let e : n - i ≡ 0 = omega arith in rw e
+    rows-over zero h = refl
+    rows-over (suc m) h = absurd (omega arith)

@@ -19,10 +19,11 @@ use Rattle.rules.specs.Clashes.{labelsDiffer, clashesAt, clashes}
 use Rattle.rules.proofs.Logic.{both, first-of, second-of, decided, contrary, same-tests}
 use Rattle.rules.proofs.Some.{below-by, below-one}
 use Rattle.rules.proofs.Lists.{all-with}
+use Rattle.rules.proofs.More.{still, last-stated, stated-of}
 use Rattle.rules.proofs.Derived.{smallest, derived-shape, derived-closed, is-derived}
 use Rattle.rules.proofs.Clashing.{differ-by, differ-of, clashing, not-clashing}
 use Rattle.labels.specs.Labels.{LabelsStand, NoLabelling, otherStated}
-use Rattle.labels.proofs.Kept.{still, last-stated, stated-of, subjectOf, labelOf, other-by, other-of}
+use Rattle.labels.proofs.Kept.{subjectOf, labelOf, other-by, other-of}
 use Rattle.answers.specs.Supports.{SingleLabels}
 
 -- j is alike to i and has a label other than a

@@ -16,10 +16,10 @@ fn clash_in_row(t: &[u8], n: usize, counts: &[u8; 128], labels: &[u16; 128], i: 
     if counts[i] == 0 {
         return Clash::Nowhere;
     }
-    let mut j = 0;
-    while j < n {
-        let at = j;
-        j += 1;
+    let mut left = n;
+    while 0 < left {
+        let at = n - left;
+        left -= 1;
         if has_fact(t, n, true, i, at) {
             if labels_differ(counts, labels, i, at) {
                 return Clash::Between(Variable(i as u8), Variable(at as u8));
@@ -34,11 +34,12 @@ pub fn clash_of(t: &[u8], n: usize, counts: &[u8; 128], labels: &[u16; 128]) -> 
     requires { ⌜ Lent n (now t) ⌝ }
     ensures { λ r. ⌜ ClashTold n (now (t .entry)) (now (counts .entry)) (now (labels .entry)) r ⌝ }
 {
-    let mut i = 0;
-    while i < n {
+    let mut left = n;
+    while 0 < left {
+        let i = n - left;
         match clash_in_row(t, n, counts, labels, i) {
             Clash::Nowhere => {
-                i += 1;
+                left -= 1;
             }
             Clash::Between(x, y) => return Clash::Between(x, y),
         }

@@ -15,13 +15,13 @@ use Rattle.rules.specs.Clashes.{labelsDiffer, clashesAt, clashes}
 use Rattle.rules.proofs.Clashing.{differ-by, differ-of, clashing, not-clashing}
 use Rattle.rules.proofs.Derived.{smallest, derived-closed}
 use Rattle.rules.proofs.Lists.{all-with}
+use Rattle.rules.proofs.More.{still, last-stated, stated-of}
 use Rattle.rules.proofs.Logic.{both, first-of, second-of, decided, contrary, same-tests}
 use Rattle.rules.proofs.Tables.{fact-row, fact-column}
 use Rattle.table.specs.Queue.{firstOf, secondOf, Queued}
 use Rattle.facts.specs.Additions.{Facts}
 use Rattle.selections.specs.Stands.{Selected, SelectionsStand}
 use Rattle.labels.specs.Labels.{NoLabelling}
-use Rattle.labels.proofs.Kept.{still, last-stated, stated-of}
 use Rattle.answers.proofs.OneLabel.{fewer-closed}
 use Rattle.derivation.proofs.Equal.{derived-framed, derived-stated, derived-descends, settled-derived}
 use Rattle.closure.specs.Trials.{entryClashes, QueuedClash, Searched, Standing, Consistent}

@@ -1,22 +1,22 @@
 -- A fact on trial: from the closed table to the least closed one that has it too.
 use Prim.Native.Nat.{ℕ, _+_, _*_, _<_, _≤_}
 use lib.ListN.{length, getD, set, length-set}
-use lib.Seq.{getD-set-same, getD-set-other}
 use mathlib.Core.Bool.{Bool}
 use mathlib.Core.List.{List}
 use mathlib.Core.Logic.{_⊎_, inl, inr, ⊎-elim}
-use mathlib.Core.Path.{_≡_, ap, _∙_}
+use mathlib.Core.Path.{_≡_, _∙_}
 use native.Mathlib.Nat.{mul-le-mul}
 use native.Mathlib.Omega.{arith}
 use Rattle.rules.specs.Facts.{Kind, Holds}
 use Rattle.rules.specs.Tables.{facts, Shape}
 use Rattle.rules.proofs.Logic.{last-or-before}
 use Rattle.rules.proofs.Tables.{fact-row, fact-column}
-use Rattle.table.specs.Queue.{firstOf, secondOf, State, state, Queued, Entry, Ready, queueRoom}
+use Rattle.table.specs.Queue.{State, state, Queued, Entry, Ready, queueRoom}
+use Rattle.table.proofs.Entries.{wider, carried, pushed-kept, pushed-entry, pushed-queued}
 use Rattle.facts.specs.Additions.{Facts, Said, Steps}
 use Rattle.facts.specs.Insertion.{Inserting}
 use Rattle.facts.specs.Restoring.{Restoring}
-use Rattle.facts.proofs.Moving.{wider, carried, moves-then, ready-after}
+use Rattle.facts.proofs.Moving.{moves-then, ready-after}
 use Rattle.selections.specs.Groups.{Grouped}
 use Rattle.selections.specs.Stands.{Selected}
 use Rattle.derivation.specs.Settled.{Handed, Starting, Settled}
@@ -138,27 +138,17 @@ module _ {n : ℕ} {selected : Selected} {P : Facts} {t₀ t queue : List ℕ} {
 -- an entry more
 module _ (n tail tail′ x y : ℕ) (queue queue′ : List ℕ) (few : n ≤ 128) (h : x < n) (g : y < n)
     (room : tail < length queue) (moved : tail′ ≡ tail + 1) (pushed : queue′ ≡ set queue tail (x * 256 + y)) where
-  push-here : getD queue′ tail 0 ≡ x * 256 + y
-  push-here = rw pushed (getD-set-same queue tail (x * 256 + y) 0 room)
-
   push-kept : (k : ℕ) → k < tail → getD queue′ k 0 ≡ getD queue k 0
-  push-kept k b = rw pushed (getD-set-other queue tail k (x * 256 + y) 0 (λ e. omega arith))
+  push-kept k b = rw pushed (pushed-kept n queue tail x y k b)
 
   push-entries : ((k : ℕ) → k < tail → Entry n (getD queue k 0)) → (k : ℕ) → k < tail′ → Entry n (getD queue′ k 0)
   push-entries old k b =
       last-or-before k tail (omega arith)
-      (λ e. rw (e, push-here) (record { first = omega arith; second = omega arith }))
+      (λ e. rw (e, pushed) (pushed-entry n queue tail x y few h g room))
       (λ c. rw (push-kept k c) (old k c))
 
   push-queued : Queued queue′ 0 tail′ x y
-  push-queued =
-      record {
-        at = tail;
-        behind = omega arith;
-        ahead = omega arith;
-        first = ap firstOf push-here ∙ omega arith;
-        second = ap secondOf push-here ∙ omega arith;
-      }
+  push-queued = rw (pushed, moved) (wider (omega arith) (omega arith) (pushed-queued n queue tail x y few h g room))
 
   push-still : {i j : ℕ} → Queued queue 0 tail i j → Queued queue′ 0 tail′ i j
   push-still q = wider (omega arith) (omega arith) (carried push-kept q)

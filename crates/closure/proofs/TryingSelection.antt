@@ -12,7 +12,8 @@ use Rattle.rules.specs.Tables.{facts}
 use Rattle.rules.proofs.Logic.{decided}
 use Rattle.rules.proofs.Tables.{fact-row, fact-column}
 use Rattle.table.specs.Queue.{State, state, Ready}
-use Rattle.facts.proofs.Moving.{ready-after, wider}
+use Rattle.table.proofs.Entries.{wider}
+use Rattle.facts.proofs.Moving.{ready-after}
 use Rattle.selections.specs.declared.trial.Kept.{Kept}
 use Rattle.selections.specs.Groups.{Grouped, groupPlaces}
 use Rattle.selections.specs.Trial.{Put}

@@ -12,8 +12,9 @@ use Rattle.rules.specs.Tables.{facts}
 use Rattle.rules.proofs.Logic.{decided}
 use Rattle.rules.proofs.Tables.{fact-row, fact-column}
 use Rattle.table.specs.Queue.{firstOf, secondOf, Queued, State, Ready, queueRoom}
+use Rattle.table.proofs.Entries.{wider, carried}
 use Rattle.facts.specs.Additions.{Moves, Framed, Steps}
-use Rattle.facts.proofs.Moving.{wider, carried, moves-none, moves-then, ready-after, fact-bound}
+use Rattle.facts.proofs.Moving.{moves-none, moves-then, ready-after, fact-bound}
 use Rattle.selections.specs.Groups.{Grouped}
 use Rattle.selections.specs.Stands.{Selected}
 use Rattle.derivation.specs.Descent.{Visiting, Visited}

@@ -14,11 +14,11 @@ use Rattle.rules.specs.Stated.{ordering, compatibility}
 use Rattle.rules.specs.Facts.{Kind, ordered, compatible, fact}
 use Rattle.rules.specs.Tables.{says}
 use Rattle.rules.proofs.Logic.{contrary}
+use Rattle.rules.proofs.More.{still, stated-of}
 use Rattle.facts.specs.Additions.{Facts, Said, Among}
 use Rattle.facts.proofs.Sets.{among-none}
 use Rattle.selections.proofs.Appended.{entriesOf, single, below-both, at-single, at-first, at-second, at-either}
 use Rattle.selections.proofs.Stands.{subjectIn}
-use Rattle.labels.proofs.Kept.{still, stated-of}
 use Rattle.derivation.specs.Stands.{Pairs, Paired, PairsStand}
 
 -- the cell of a kind alone

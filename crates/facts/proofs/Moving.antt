@@ -4,7 +4,7 @@ use lib.ListN.{getD}
 use mathlib.Core.Bool.{false}
 use mathlib.Core.List.{List}
 use mathlib.Core.Logic.{_⊎_, inl, inr, ⊎-elim}
-use mathlib.Core.Path.{_≡_, refl, ap, _∙_}
+use mathlib.Core.Path.{_≡_, refl, _∙_}
 use native.Mathlib.Omega.{arith}
 use Rattle.fields.specs.Tests.{less}
 use Rattle.fields.proofs.Choice.{less-true, less-false}
@@ -12,34 +12,9 @@ use Rattle.rules.specs.Facts.{Kind, ordered, compatible, Holds, Within}
 use Rattle.rules.specs.Tables.{facts, Shape, countFacts}
 use Rattle.rules.proofs.Counts.{count-most, count-back, count-bound}
 use Rattle.rules.proofs.Logic.{decided, contrary}
-use Rattle.table.specs.Queue.{firstOf, secondOf, Queued, Entry, State, factCount, Ready}
+use Rattle.table.specs.Queue.{Queued, Entry, State, factCount, Ready}
+use Rattle.table.proofs.Entries.{wider, carried}
 use Rattle.facts.specs.Additions.{Moves}
-
--- an entry of the queue, between wider bounds
-pub wider : {queue : List ℕ} {from upto from′ upto′ i j : ℕ} → from′ ≤ from → upto ≤ upto′
-    → Queued queue from upto i j → Queued queue from′ upto′ i j
-wider h g e =
-    record {
-      at = e .at;
-      behind = omega (arith, e .behind);
-      ahead = omega (arith, e .ahead);
-      first = e .first;
-      second
-          = e .second;
-    }
-
--- and in a queue that has the same there
-pub carried : {queue queue′ : List ℕ} {from upto i j : ℕ}
-    → ((k : ℕ) → k < upto → getD queue′ k 0 ≡ getD queue k 0)
-    → Queued queue from upto i j → Queued queue′ from upto i j
-carried kept e =
-    record {
-      at = e .at;
-      behind = e .behind;
-      ahead = e .ahead;
-      first = ap firstOf (kept (e .at) (e .ahead)) ∙ e .first;
-      second = ap secondOf (kept (e .at) (e .ahead)) ∙ e .second;
-    }
 
 pub moves-none : {n : ℕ} (s : State) → Shape n (s .table) → Moves n s s
 moves-none s shape =

@@ -1,8 +1,7 @@
 -- One cell that is joined with another: what is added to table and queue.
 use Prim.Native.Nat.{ℕ, _+_, _*_, _<_}
 use lib.Bits.{bitOr}
-use lib.ListN.{getD, set, length-set}
-use lib.Seq.{getD-set-same, getD-set-other}
+use lib.ListN.{length, set, length-set}
 use mathlib.Core.Bool.{true}
 use mathlib.Core.List.{List}
 use mathlib.Core.Logic.{inl, inr}
@@ -15,7 +14,8 @@ use Rattle.rules.specs.Tables.{says, cellAt, facts, Shape}
 use Rattle.rules.proofs.Logic.{either-first, either-second, either-of}
 use Rattle.rules.proofs.Tables.{fact-row, fact-column, fact-said}
 use Rattle.table.specs.Cells.{withCell}
-use Rattle.table.specs.Queue.{firstOf, secondOf, Queued, State, state, factCount, queueRoom}
+use Rattle.table.specs.Queue.{Queued, State, state, factCount, queueRoom}
+use Rattle.table.proofs.Entries.{pushed-kept, pushed-entry, pushed-queued}
 use Rattle.table.proofs.Stores.{store-there, store-elsewhere, store-shape, there-or}
 use Rattle.facts.specs.Additions.{Said, Added}
 use Rattle.facts.specs.Insertion.{Taking}
@@ -99,24 +99,13 @@ module _ (n : ℕ) (s : State) (w x y : ℕ) (taking : Taking n s w x y) where
     abbrev queue : List ℕ
     queue = set (s .queue) (s .tail) entry
 
-    entry-there : getD queue (s .tail) 0 ≡ entry
-    entry-there = getD-set-same (s .queue) (s .tail) entry 0 (omega (arith, has-room, taking .ready .size))
-
-    entry-first : firstOf entry ≡ x
-    entry-first = omega (arith, taking .second, taking .ready .few)
-
-    entry-second : secondOf entry ≡ y
-    entry-second = omega (arith, taking .second, taking .ready .few)
+    long : s .tail < length (s .queue)
+    long = omega (arith, has-room, taking .ready .size)
 
     queued : (i j : ℕ) → i ≡ x → j ≡ y → Queued queue (s .tail) (s .tail + 1) i j
     queued i j e f =
-        record {
-          at = s .tail;
-          behind = omega arith;
-          ahead = omega arith;
-          first = ap firstOf entry-there ∙ entry-first ∙ sym e;
-          second = ap secondOf entry-there ∙ entry-second ∙ sym f;
-        }
+        at-pair (Queued queue (s .tail) (s .tail + 1)) e f
+        (pushed-queued n (s .queue) (s .tail) x y (taking .ready .few) (taking .first) (taking .second) long)
 
     abbrev next : State
     next = state new queue (s .tail + 1)
@@ -142,11 +131,11 @@ module _ (n : ℕ) (s : State) (w x y : ℕ) (taking : Taking n s w x y) where
                 grows = new-grows;
                 size = length-set (s .queue) (s .tail) entry;
                 later = omega arith;
-                kept = λ k h. getD-set-other (s .queue) (s .tail) k entry 0 (λ e. omega arith);
+                kept = pushed-kept n (s .queue) (s .tail) x y;
                 entries = λ k h g.
                     let here : k ≡ s .tail = omega arith in
-                    rw (here, entry-there)
-                    (record { first = rw entry-first (taking .first); second = rw entry-second (taking .second) });
+                    rw here
+                    (pushed-entry n (s .queue) (s .tail) x y (taking .ready .few) (taking .first) (taking .second) long);
                 queued = λ kind i j p. by-place kind i j p (λ e f q. inr (queued i j e f)) inl;
                 counted = omega (arith, more);
               };

@@ -4,9 +4,7 @@ use Prim.Native.Nat.{ℕ, _<_, _≤_}
 use lib.ListN.{length, getD, replicate, length-set, length-replicate, getD-replicate}
 use lib.Seq.{getD-set-same, getD-set-other}
 use mathlib.Core.Bool.{true, false, not}
-use mathlib.Core.List.{List, [], _∷_, _++_, Memᴰ·append-left, Memᴰ·append-right, List·Memᴰ·append-cases, List·Memᴰ·head}
-use mathlib.Core.List.{List·Memᴰ·not-nil, List·Memᴰ·eq-of-singleton}
-use mathlib.Core.Logic.{⊎-elim}
+use mathlib.Core.List.{List, [], _∷_, _++_, List·Memᴰ·not-nil}
 use mathlib.Core.Path.{_≡_, refl, sym, ap, subst, _∙_}
 use native.Mathlib.Omega.{arith}
 use Rattle.fields.specs.Tests.{same, pick}
@@ -17,20 +15,9 @@ use Rattle.rules.specs.Stated.{labelling, Stated}
 use Rattle.rules.specs.Clashes.{labelsDiffer}
 use Rattle.rules.proofs.Logic.{both, first-of, second-of, decided, refuted, same-tests}
 use Rattle.rules.proofs.Some.{by-labelling, one-labelling}
+use Rattle.rules.proofs.More.{still, last-stated, stated-of}
 use Rattle.rules.proofs.Clashing.{differ-by, differ-of}
 use Rattle.labels.specs.Labels.{LabelsAt, LabelsStand, countsWith, labelsWith, NoLabelling, otherStated}
-
--- a statement behind the list: what was stated still is, and what is stated was or is the last
-pub still : {st : List Statement} {x : Statement} (q : Statement) → Stated st x → Stated (st ++ (q ∷ [])) x
-still q m = Memᴰ·append-left (q ∷ []) m
-
-pub last-stated : (st : List Statement) (q : Statement) → Stated (st ++ (q ∷ [])) q
-last-stated st q = Memᴰ·append-right st (List·Memᴰ·head refl)
-
-pub stated-of : {C : Type 0} {x : Statement} (st : List Statement) (q : Statement) → Stated (st ++ (q ∷ [])) x
-    → (Stated st x → C) → (x ≡ q → C) → C
-stated-of st q m before last =
-    ⊎-elim before (λ s. last (List·Memᴰ·eq-of-singleton s)) (List·Memᴰ·append-cases st m)
 
 -- another label, by its test
 pub other-by : {st : List Statement} {j a b : ℕ} → Stated st (labelling j b) → (a ≡ b → ⊥) → otherStated st j a ≡ true

@@ -13,11 +13,12 @@ use Rattle.rules.specs.Stated.{labelling, Stated, ifLabelling}
 use Rattle.rules.specs.Clashes.{clashesAt, clashes}
 use Rattle.rules.proofs.Logic.{second-of, decided, refuted, last-or-before}
 use Rattle.rules.proofs.Lists.{named}
+use Rattle.rules.proofs.More.{stated-of}
 use Rattle.rules.proofs.Clashing.{differ-of, clashing}
 use Rattle.labels.specs.declared.spread.Spread.{Spread}
 use Rattle.labels.specs.Labels.{LabelsAt, LabelsStand}
 use Rattle.labels.specs.Spreads.{withLabel, withLabels, spreadBelow, canClash}
-use Rattle.labels.proofs.Kept.{stated-of, labelOf}
+use Rattle.labels.proofs.Kept.{labelOf}
 
 -- every label that st states is b
 OneLabel : List Statement → ℕ → Type 0

@@ -4,6 +4,7 @@ pub mod Cases
 pub mod Logic
 pub mod Some
 pub mod Lists
+pub mod More
 pub mod Labels
 pub mod Supported
 pub mod Cells

@@ -4,7 +4,7 @@ use Prim.Native.Nat.{_-_, _≤_}
 use mathlib.Core.List.{List}
 use mathlib.Core.Path.{_≡_, sym, _∙_}
 use native.Mathlib.Omega.{arith}
-use native.Mathlib.Nat.{sub-zero}
+use native.Mathlib.Nat.{sub-self}
 use Rattle.items.specs.declared.items.Statement.{Statement}
 use Rattle.rules.specs.Clashes.{clashInRow}
 use Rattle.rules.specs.Tables.{facts}
@@ -15,13 +15,13 @@ use Rattle.answers.proofs.clashes.clash_in_row.Statement.{statement}
 use Rattle.answers.proofs.clashes.clash_in_row.Tie as tie
 
 abbrev Inv-loop : tie.InvT-loop
-Inv-loop t n counts labels i j₀ j =
-    (j ≤ n)
+Inv-loop t n counts labels i left₀ left =
+    (left ≤ n)
     × ((st : List Statement) → LabelsStand n st counts labels
-    → clashInRow (n - j) j st (facts n t) i ≡ clashInRow n 0 st (facts n t) i)
+    → clashInRow left (n - left) st (facts n t) i ≡ clashInRow n 0 st (facts n t) i)
 
 abbrev μ-loop : tie.MeasureT-loop
-μ-loop t n counts labels i j₀ j = n - j
+μ-loop t n counts labels i left₀ left = left
 
 element-copy-out-if1 : tie.Need-element-copy-out-if1 Inv-loop μ-loop
 element-copy-out-if1 c = omega arith
@@ -37,10 +37,13 @@ returns c =
     }
 
 loop-holds : tie.Need-loop-holds Inv-loop μ-loop
-loop-holds c = (omega arith, λ st stand. rw sub-zero)
+loop-holds c = (omega arith, λ st stand. rw sub-self)
 
-add-j : tie.Need-add-j Inv-loop μ-loop
-add-j c = omega arith
+sub-at : tie.Need-sub-at Inv-loop μ-loop
+sub-at c = omega arith
+
+sub-left : tie.Need-sub-left Inv-loop μ-loop
+sub-left c = omega arith
 
 has-fact-requires : tie.Need-has-fact-requires Inv-loop μ-loop
 has-fact-requires c κs = search needs
@@ -66,10 +69,7 @@ returns-2 c =
       told = λ st stand.
           row-here st _ _ _ _ (at-loop-test .loop-test .taken)
           (applies st _ _ _ (sym (at-has-fact .has-fact .ensures) ∙ at-if2 .if2 .taken)
-          (sym (at-labels-differ .labels-differ .ensures .told _ st stand
-          (start .pre .1)
-          (at-loop-test .loop-test .taken))
-          ∙ c .if3 .taken))
+          (sym (at-labels-differ .labels-differ .ensures .told _ st stand (start .pre .1) (omega arith)) ∙ c .if3 .taken))
           ∙ at-loop .loop .inv .1 st stand;
     }
 
@@ -84,12 +84,9 @@ loop-again c =
     let start = at-loop .before .before .before .before in (
       omega arith,
       λ st stand.
-          row-on st _ _ _ _ (at-loop-test .loop-test .taken)
+          row-on st _ _ _ _ _ _ (omega arith) (omega arith)
           (not-different st _ _ _
-          (sym (at-labels-differ .labels-differ .ensures .told _ st stand
-          (start .pre .1)
-          (at-loop-test .loop-test .taken))
-          ∙ c .if3 .left))
+          (sym (at-labels-differ .labels-differ .ensures .told _ st stand (start .pre .1) (omega arith)) ∙ c .if3 .left))
           ∙ at-loop .loop .inv .1 st stand,
     )
 
@@ -100,14 +97,14 @@ loop-again-2 : tie.Need-loop-again-2 Inv-loop μ-loop
 loop-again-2 c = (
   omega arith,
   λ st stand.
-      row-on st _ _ _ _ (c .before .before .loop-test .taken)
+      row-on st _ _ _ _ _ _ (omega arith) (omega arith)
       (not-alike st _ _ _ (sym (c .before .has-fact .ensures) ∙ c .if2 .left))
       ∙ c .before .before .before .loop .inv .1 st stand,
 )
 
 returns-3 : tie.Need-returns-3 Inv-loop μ-loop
 returns-3 c =
-    record { told = λ st stand. row-over st _ _ _ _ (c .loop-test .left) ∙ c .before .loop .inv .1 st stand }
+    record { told = λ st stand. row-over st _ _ _ _ (omega arith) ∙ c .before .loop .inv .1 st stand }
 
 pub clash-in-row-spec : {M : Type 1} → statement M
 clash-in-row-spec =
@@ -118,7 +115,8 @@ clash-in-row-spec =
     element-copy-out-if1
     returns
     loop-holds
-    add-j
+    sub-at
+    sub-left
     has-fact-requires
     labels-differ-requires
     cast-t15
