@@ -28,7 +28,7 @@ use Rattle.labels.proofs.Skip.{skip}
 use Rattle.answers.specs.Cells.{Lent}
 use Rattle.answers.specs.Clashes.{ClashTold, LabelClashTold}
 use Rattle.answers.proofs.OneLabel.{no-label}
-use Rattle.derivation.proofs.Stands.{kindCell, cell-small, statement-pairs, fact-said, said-fact, no-subject}
+use Rattle.derivation.proofs.Stands.{kindCell, statement-pairs, fact-said, said-fact, no-subject}
 use Rattle.closure.specs.Trials.{Nothing, WithOne, before, last, Searched, Tried, TryingFact, TryingSelection}
 use Rattle.closure.specs.Trials.{Restored, Standing, Consistent, Asking}
 use Rattle.closure.proofs.Tried.{States, still-clashes, tried-answer}
@@ -149,13 +149,13 @@ module _ {n : ℕ} {closed starts ends features children counts labels : List �
 -- what each kind asks
 module _ {n : ℕ} {closed t queue starts ends features children : List ℕ} {q : Statement}
     (asking : Asking n closed t queue starts ends features children q) where
-  pub ask-fact : (kind : Kind) (i j : ℕ) → q ≡ fact kind i j
-      → TryingFact n t queue starts ends features children (kindCell kind) i j
-  ask-fact kind i j e =
+  pub ask-fact : (kind : Kind) (w i j : ℕ) → w < 4 → q ≡ fact kind i j
+      → TryingFact n t queue starts ends features children w i j
+  ask-fact kind w i j small e =
       let names = fact-names kind i j (rw e at (asking .names)) in
       record {
         trying = rw (asking .copied) (asking .trying);
-        cell = cell-small kind;
+        cell = small;
         first = names .0;
         second = names .1;
       }

@@ -42,14 +42,14 @@ module _ {n : ℕ} {t queue starts ends features children : List ℕ} {w i j : �
         entries = λ k h. absurd (omega arith);
       }
 
-  pub fact-insert : Inserting n (state t queue 0) w i j
-  fact-insert =
+  pub fact-insert : (x y : ℕ) → x < n → y < n → Inserting n (state t queue 0) w x y
+  fact-insert x y first second =
       record {
         taking =
             record {
               ready = fact-ready;
-              first = trying .first;
-              second = trying .second;
+              first = first;
+              second = second;
               cell = trying .cell;
             };
         framed = given-to .framed;

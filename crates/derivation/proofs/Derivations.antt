@@ -30,17 +30,16 @@ says-both compatible = refl
 
 -- one stated pair, with its variables as they were read
 pub pair-insert : {n : ℕ} {s s′ : State} {cells lefts rights : List ℕ} → InsertingPairs n s cells lefts rights
-    → Moves n s s′ → Framed n (facts n (s′ .table)) → (k a b : ℕ) → k < length cells → a ≡ getD lefts k 0
-    → b ≡ getD rights k 0 → Inserting n s′ (getD cells k 0) a b
-pair-insert inserting moves framed k a b h left right =
-    let pairs = inserting .pairs in
+    → Moves n s s′ → Framed n (facts n (s′ .table)) → (k a b : ℕ) → k < length cells → a < n → b < n
+    → Inserting n s′ (getD cells k 0) a b
+pair-insert inserting moves framed k a b h first second =
     record {
       taking =
           record {
             ready = ready-after (inserting .ready) moves;
-            first = rw left (pairs .left-below k h);
-            second = rw right (pairs .right-below k h);
-            cell = pairs .cell-small k h;
+            first = first;
+            second = second;
+            cell = inserting .pairs .cell-small k h;
           };
       framed = framed;
     }

@@ -131,16 +131,20 @@ module _ {n : ℕ} {s : State} {starts ends features children : List ℕ} {entry
         column = below-second;
       }
 
+  -- from which some cell is to be handed down
+  pub visit-hands : (w : ℕ) → w < 4 → Handing n s starts ends features children w u v
+  visit-hands w small =
+      record {
+        running = visiting .running;
+        cell = small;
+        first = below-first;
+        second = below-second;
+      }
+
   -- and whose cell was looked up
   module _ (w : ℕ) (looked : w ≡ cellAt n (s .table) u v) where
-    pub visit-hands : Handing n s starts ends features children w u v
-    visit-hands =
-        record {
-          running = visiting .running;
-          cell = rw looked (visiting .running .ready .shape .cells u v below-first below-second);
-          first = below-first;
-          second = below-second;
-        }
+    pub visit-small : w < 4
+    visit-small = rw looked (visiting .running .ready .shape .cells u v below-first below-second)
 
     said-of : (kind : Kind) → says kind w ≡ true → Holds (facts n (s .table)) kind (firstOf entry) (secondOf entry)
     said-of kind p =

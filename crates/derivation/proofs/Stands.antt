@@ -168,10 +168,6 @@ pub no-subject : (kind : Kind) (i j : ℕ) → subjectIn (fact kind i j) ≡ []
 no-subject ordered i j = refl
 no-subject compatible i j = refl
 
-pub cell-small : (kind : Kind) → kindCell kind < 4
-cell-small ordered = omega arith
-cell-small compatible = omega arith
-
 is-stated : (q : Statement) (kind : Kind) (i j : ℕ) → PairedIn q kind i j → fact kind i j ≡ q
 is-stated (Statement.Ordering x y) kind i j a = fact-said ordered kind (x .0) (y .0) i j (said-of a)
 is-stated (Statement.Compatibility x y) kind i j a = fact-said compatible kind (x .0) (y .0) i j (said-of a)

@@ -1,11 +1,16 @@
 -- `closure::trials::try_fact` meets its contract.
 use mathlib.Core.Path.{_∙_}
+use native.Mathlib.Omega.{arith}
 use Rattle.closure.proofs.Trying.{fact-insert, fact-run, fact-tried}
 use Rattle.closure.proofs.trials.try_fact.Statement.{statement}
 use Rattle.closure.proofs.trials.try_fact.Tie as tie
 
 insert-requires : tie.Need-insert-requires
-insert-requires c κs = fact-insert (c .before .before .before .pre)
+insert-requires c κs =
+    let trying = c .before .before .before .pre in
+    let first = trying .first in
+    let second = trying .second in
+    fact-insert trying _ _ (omega arith) (omega arith)
 
 run-requires : tie.Need-run-requires
 run-requires c κs =

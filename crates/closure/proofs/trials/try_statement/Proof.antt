@@ -1,6 +1,7 @@
 -- `closure::trials::try_statement` meets its contract, kind by kind.
 use borrow.Author.Needs.{needs}
 use mathlib.Core.Path.{sym, ap₂, _∙_}
+use native.Mathlib.Omega.{arith}
 use Rattle.rules.specs.Facts.{ordered, compatible, fact}
 use Rattle.closure.proofs.Questions.{untouched, fact-told, selection-told, label-told, ask-fact}
 use Rattle.closure.proofs.Questions.{ask-selection, ask-label}
@@ -22,7 +23,7 @@ fact-clashes-requires c κs =
     let at-wide = at-wide2 .before in
     let at-q = at-wide .before .before .before in
     let start = at-q .before .before .before .before in (
-      ask-fact (start .pre) ordered _ _
+      ask-fact (start .pre) ordered _ _ _ (omega arith)
           (at-q .q .given .1 ∙ ap₂ (fact ordered) (sym (at-wide .wide .ensures)) (sym (at-wide2 .wide2 .ensures))),
       start .pre .copied,
     )
@@ -42,7 +43,7 @@ fact-clashes-requires-2 c κs =
     let at-wide3 = at-wide4 .before in
     let at-q2 = at-wide3 .before .before .before in
     let start = at-q2 .before .before .before .before in (
-      ask-fact (start .pre) compatible _ _
+      ask-fact (start .pre) compatible _ _ _ (omega arith)
           (at-q2 .q2 .given .1 ∙ ap₂ (fact compatible) (sym (at-wide3 .wide3 .ensures))
           (sym (at-wide4 .wide4 .ensures))),
       start .pre .copied,

@@ -54,9 +54,12 @@ insert-requires c κs =
     let at-loop = at-loop-test .before in
     let start = at-loop .before .before .before .before .before in
     let inv = at-loop .loop .inv .1 in
-    pair-insert (start .pre) (inv .moves) (inv .framed) (at-loop .loop .k) _ _ (at-loop-test .loop-test .taken)
-    (at-wide .wide .ensures)
-    (at-wide2 .wide2 .ensures)
+    let k = at-loop .loop .k in
+    let inside = at-loop-test .loop-test .taken in
+    let left = start .pre .pairs .left-below k inside in
+    let right = start .pre .pairs .right-below k inside in
+    pair-insert (start .pre) (inv .moves) (inv .framed) k _ _ inside (omega (arith, at-wide .wide .ensures))
+    (omega (arith, at-wide2 .wide2 .ensures))
 
 add-k : tie.Need-add-k Inv-loop μ-loop
 add-k c =

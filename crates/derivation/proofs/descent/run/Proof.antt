@@ -24,21 +24,24 @@ mul-visit c =
     let at-loop-test = c .before in
     let at-loop = at-loop-test .before in
     let start = at-loop .before .before in
-    omega (arith, tail-bound (halfway-ready (start .pre) (at-loop .loop .inv)), at-loop-test .loop-test .taken)
+    omega
+    (arith, tail-bound (halfway-ready (start .pre) (at-loop .loop .inv)), at-loop .loop .inv .moves .later, at-loop-test .loop-test .taken)
 
 element-copy-out-visit : tie.Need-element-copy-out-visit Inv-loop μ-loop
 element-copy-out-visit c =
     let at-loop-test = c .before in
     let at-loop = at-loop-test .before in
     let start = at-loop .before .before in
-    omega (arith, tail-bound (halfway-ready (start .pre) (at-loop .loop .inv)), at-loop-test .loop-test .taken)
+    omega
+    (arith, tail-bound (halfway-ready (start .pre) (at-loop .loop .inv)), at-loop .loop .inv .moves .later, at-loop-test .loop-test .taken)
 
 visit-requires : tie.Need-visit-requires Inv-loop μ-loop
 visit-requires c κs =
     let at-loop-test = c .before .before .before in
     let at-loop = at-loop-test .before in
     let start = at-loop .before .before in
-    halfway-visit (start .pre) (at-loop .loop .inv) _ refl (at-loop-test .loop-test .taken)
+    halfway-visit (start .pre) (at-loop .loop .inv) _ refl
+    (omega (arith, at-loop .loop .inv .moves .later, at-loop-test .loop-test .taken))
 
 add-head : tie.Need-add-head Inv-loop μ-loop
 add-head c =
@@ -46,7 +49,8 @@ add-head c =
     let at-loop-test = start in
     let at-loop = at-loop-test .before in
     let start = at-loop .before .before in
-    omega (arith, tail-bound (halfway-ready (start .pre) (at-loop .loop .inv)), at-loop-test .loop-test .taken)
+    omega
+    (arith, tail-bound (halfway-ready (start .pre) (at-loop .loop .inv)), at-loop .loop .inv .moves .later, at-loop-test .loop-test .taken)
 
 loop-less : tie.Need-loop-less Inv-loop μ-loop
 loop-less c =
@@ -54,7 +58,8 @@ loop-less c =
     let at-loop-test = start in
     let at-loop = at-loop-test .before in
     let start = at-loop .before .before in
-    omega (arith, tail-bound (halfway-ready (start .pre) (at-loop .loop .inv)), at-loop-test .loop-test .taken)
+    omega
+    (arith, tail-bound (halfway-ready (start .pre) (at-loop .loop .inv)), at-loop .loop .inv .moves .later, at-loop-test .loop-test .taken)
 
 loop-again : tie.Need-loop-again Inv-loop μ-loop
 loop-again c =
@@ -62,7 +67,8 @@ loop-again c =
     let at-loop-test = at-visit .before .before .before .before in
     let at-loop = at-loop-test .before in
     let start = at-loop .before .before in
-    halfway-next (start .pre) (at-loop .loop .inv) _ refl (at-loop-test .loop-test .taken) (at-visit .visit .ensures)
+    halfway-next (start .pre) (at-loop .loop .inv) _ refl
+    (omega (arith, at-loop .loop .inv .moves .later, at-loop-test .loop-test .taken)) (at-visit .visit .ensures)
 
 same-length : tie.Need-same-length Inv-loop μ-loop
 same-length c =

@@ -1,6 +1,7 @@
 -- `derivation::descent::visit` meets its contract: what the cell says, if anything, is handed down.
 use mathlib.Core.Path.{refl}
-use Rattle.derivation.proofs.Descending.{visit-cell, visit-hands, visit-none, visit-steps}
+use native.Mathlib.Omega.{arith}
+use Rattle.derivation.proofs.Descending.{visit-cell, visit-small, visit-hands, visit-none, visit-steps}
 use Rattle.derivation.proofs.descent.visit.Statement.{statement}
 use Rattle.derivation.proofs.descent.visit.Tie as tie
 
@@ -35,8 +36,10 @@ hand-down-requires c κs =
     let at-second-of = at-look .before .before in
     let at-first-of = at-second-of .before in
     let start = at-first-of .before .before in
-    visit-hands (start .pre) _ _ (at-first-of .first-of .ensures) (at-second-of .second-of .ensures) _
-    (at-look .look .ensures)
+    let small =
+    visit-small (start .pre) _ _ (at-first-of .first-of .ensures) (at-second-of .second-of .ensures) _
+    (at-look .look .ensures) in
+    visit-hands (start .pre) _ _ (at-first-of .first-of .ensures) (at-second-of .second-of .ensures) _ (omega arith)
 
 same-length-2 : tie.Need-same-length-2
 same-length-2 c = c .before .t .given

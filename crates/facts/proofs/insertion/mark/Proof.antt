@@ -10,13 +10,13 @@ use Rattle.facts.proofs.insertion.mark.Statement.{statement}
 use Rattle.facts.proofs.insertion.mark.Tie as tie
 
 look-requires : tie.Need-look-requires
-look-requires c κs = c .before .pre .0
+look-requires c κs = search needs
 
 says-ordered-requires : tie.Need-says-ordered-requires
 says-ordered-requires c κs = search needs
 
 look-requires-2 : tie.Need-look-requires-2
-look-requires-2 c κs = c .before .before .before .before .pre .1
+look-requires-2 c κs = search needs
 
 lacks-requires : tie.Need-lacks-requires
 lacks-requires c κs = search needs

@@ -10,18 +10,10 @@ second-of-requires : tie.Need-second-of-requires
 second-of-requires c κs = search needs
 
 look-requires : tie.Need-look-requires
-look-requires c κs =
-    let at-second-of = c .before in
-    let at-first-of = at-second-of .before in
-    let start = at-first-of .before .before .before in
-    rw (at-first-of .first-of .ensures, at-second-of .second-of .ensures) (start .pre .0)
+look-requires c κs = search needs
 
 store-requires : tie.Need-store-requires
-store-requires c κs =
-    let at-second-of = c .before .before in
-    let at-first-of = at-second-of .before in
-    let start = at-first-of .before .before .before in
-    rw (at-first-of .first-of .ensures, at-second-of .second-of .ensures) (start .pre .1)
+store-requires c κs = search needs
 
 same-length : tie.Need-same-length
 same-length c = search needs
