@@ -13,7 +13,7 @@ use Rattle.rules.proofs.Logic.{last-or-before}
 use Rattle.rules.proofs.Tables.{fact-row, fact-column}
 use Rattle.table.specs.Queue.{State, state, Queued, Entry, Ready, queueRoom}
 use Rattle.table.proofs.Entries.{wider, carried, pushed-kept, pushed-entry, pushed-queued}
-use Rattle.facts.specs.Additions.{Facts, Said, Steps}
+use Rattle.facts.specs.Additions.{Facts, Steps}
 use Rattle.facts.specs.Insertion.{Inserting}
 use Rattle.facts.specs.Restoring.{Restoring}
 use Rattle.facts.proofs.Moving.{moves-then, ready-after}
@@ -55,7 +55,7 @@ module _ {n : ℕ} {t queue starts ends features children : List ℕ} {w i j : �
         framed = given-to .framed;
       }
 
-  module _ {s₁ : State} (steps : Steps n (Said w i j) (state t queue 0) s₁) where
+  module _ {P : Facts} {s₁ : State} (steps : Steps n P (state t queue 0) s₁) where
     old-handed : (kind : Kind) (x y : ℕ) → Holds (facts n t) kind x y
         → Handed (Grouped starts ends features children) (facts n (s₁ .table)) kind x y
     old-handed kind x y p =
@@ -76,7 +76,7 @@ module _ {n : ℕ} {t queue starts ends features children : List ℕ} {w i j : �
         }
 
     pub fact-tried : {s₂ : State} → Settled n (Grouped starts ends features children) s₁ s₂
-        → Tries n (Grouped starts ends features children) (Said w i j) t (s₂ .table) (s₂ .queue) 0 (s₂ .tail)
+        → Tries n (Grouped starts ends features children) P t (s₂ .table) (s₂ .queue) 0 (s₂ .tail)
     fact-tried {s₂} settled =
         let moves = moves-then (steps .moves) (settled .moves) in
         let ready = ready-after fact-ready moves in

@@ -5,14 +5,11 @@ use mathlib.Core.List.{List}
 use mathlib.Core.Logic.{_⊎_, inl, inr, ⊎-elim}
 use mathlib.Core.Path.{_≡_, sym, ap, _∙_}
 use native.Mathlib.Omega.{arith}
-use Rattle.fields.specs.Tests.{same}
-use Rattle.fields.proofs.Choice.{same-true, same-false}
 use Rattle.rules.specs.Facts.{Kind, Relation, Holds, Within}
 use Rattle.rules.specs.Tables.{facts}
-use Rattle.rules.proofs.Logic.{decided}
 use Rattle.rules.proofs.Tables.{fact-row, fact-column}
 use Rattle.table.specs.Queue.{firstOf, secondOf, Queued, State, Ready, queueRoom}
-use Rattle.table.proofs.Entries.{wider, carried}
+use Rattle.table.proofs.Entries.{wider, carried, first-or-later}
 use Rattle.facts.specs.Additions.{Moves, Framed, Steps}
 use Rattle.facts.proofs.Moving.{moves-none, moves-then, ready-after, fact-bound}
 use Rattle.selections.specs.Groups.{Grouped}
@@ -81,23 +78,12 @@ module _ {n : ℕ} {s : State} {starts ends features children : List ℕ}
           → Queued (s′ .queue) head (s′ .tail) i j
           → Queued (s″ .queue) (head + 1) (s″ .tail) i j ⊎ Handed chosen (facts n (s″ .table)) kind i j
       from-queue kind i j p q =
-          decided (same (q .at) head)
-          (λ a.
-          let here : getD (s′ .queue) (q .at) 0 ≡ entry = ap (λ k. getD (s′ .queue) k 0) (same-true _ _ a) ∙ sym e in
-          let x : firstOf entry ≡ i = sym (ap firstOf here) ∙ q .first in
-          let y : secondOf entry ≡ j = sym (ap secondOf here) ∙ q .second in
+          first-or-later q
+          (λ a b.
+          let x : firstOf entry ≡ i = ap firstOf e ∙ a in
+          let y : secondOf entry ≡ j = ap secondOf e ∙ b in
           inr (rw (← x, ← y) (handed-entry kind (rw (x, y) p))))
-          (λ a.
-          let other = same-false _ _ a in
-          let later : Queued (s′ .queue) (head + 1) (s′ .tail) i j =
-          record {
-            at = q .at;
-            behind = omega (arith, q .behind);
-            ahead = q .ahead;
-            first = q .first;
-            second = q .second;
-          } in
-          inl (wider (omega arith) (steps .moves .later) (carried (steps .moves .kept) later)))
+          (λ later. inl (wider (omega arith) (steps .moves .later) (carried (steps .moves .kept) later)))
 
       pending-next : Pending n chosen (head + 1) s″
       pending-next kind i j p =

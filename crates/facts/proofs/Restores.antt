@@ -6,16 +6,20 @@ use mathlib.Core.List.{List}
 use mathlib.Core.Logic.{_⊎_, inl, inr, ⊎-elim}
 use mathlib.Core.Path.{_≡_, sym, ap, _∙_}
 use native.Mathlib.Omega.{arith}
-use Rattle.fields.specs.Tests.{same}
-use Rattle.fields.proofs.Choice.{same-true, same-false}
 use Rattle.rules.specs.Facts.{Kind, Holds}
 use Rattle.rules.specs.Tables.{says, cellAt, facts}
-use Rattle.rules.proofs.Logic.{decided, same-tests}
+use Rattle.rules.proofs.Logic.{same-tests}
 use Rattle.rules.proofs.Tables.{fact-row, fact-column, fact-said, same-facts}
 use Rattle.table.specs.Cells.{Cell, withCell}
 use Rattle.table.specs.Queue.{firstOf, secondOf, Queued}
+use Rattle.table.proofs.Entries.{first-or-later}
 use Rattle.table.proofs.Stores.{store-there, store-elsewhere, there-or, store-shape}
 use Rattle.facts.specs.Restoring.{Restoring}
+
+-- the other table's cell of an entry's variables, looked up and stored
+pub entry-restored : (n : ℕ) (other t t′ : List ℕ) (i j x y cell : ℕ) → x ≡ i → y ≡ j → cell ≡ cellAt n other x y
+    → t′ ≡ withCell n t x y cell → t′ ≡ withCell n t i j (cellAt n other i j)
+entry-restored n other t t′ i j x y cell e f looked stored = rw (← e, ← f, ← looked) stored
 
 module _ {n : ℕ} {other t queue : List ℕ} {from tail : ℕ} (restoring : Restoring n other t queue from tail) where
   -- at the end of the queue
@@ -74,17 +78,7 @@ module _ {n : ℕ} {other t queue : List ℕ} {from tail : ℕ} (restoring : Res
       -- an entry behind this one
       later : (i j : ℕ) → (i ≡ firstOf entry → j ≡ secondOf entry → ⊥) → Queued queue from tail i j
           → Queued queue (from + 1) tail i j
-      later i j away e =
-          decided (same from (e .at))
-          (λ p. absurd (away (sym (e .first) ∙ ap (λ k. firstOf (getD queue k 0)) (sym (same-true from (e .at) p)))
-          (sym (e .second) ∙ ap (λ k. secondOf (getD queue k 0)) (sym (same-true from (e .at) p)))))
-          (λ p. record {
-            at = e .at;
-            behind = omega (arith, e .behind, same-false from (e .at) p);
-            ahead = e .ahead;
-            first = e .first;
-            second = e .second;
-          })
+      later i j away e = first-or-later e (λ p q. absurd (away (sym p) (sym q))) (λ q. q)
 
       still-queued : (kind : Kind) (i j : ℕ) → Holds (facts n t′) kind i j
           → Holds (facts n other) kind i j ⊎ Queued queue (from + 1) tail i j

@@ -3,8 +3,11 @@ use Prim.Native.Nat.{ℕ, _+_, _*_, _<_, _≤_}
 use lib.ListN.{length, getD, set}
 use lib.Seq.{getD-set-same, getD-set-other}
 use mathlib.Core.List.{List}
-use mathlib.Core.Path.{_≡_, ap, _∙_}
+use mathlib.Core.Path.{_≡_, sym, ap, _∙_}
 use native.Mathlib.Omega.{arith}
+use Rattle.fields.specs.Tests.{same}
+use Rattle.fields.proofs.Choice.{same-true, same-false}
+use Rattle.rules.proofs.Logic.{decided}
 use Rattle.table.specs.Queue.{firstOf, secondOf, Queued, Entry}
 
 pub wider : {queue : List ℕ} {from upto from′ upto′ i j : ℕ} → from′ ≤ from → upto ≤ upto′
@@ -29,6 +32,25 @@ carried kept e =
       first = ap firstOf (kept (e .at) (e .ahead)) ∙ e .first;
       second = ap secondOf (kept (e .at) (e .ahead)) ∙ e .second;
     }
+
+-- the first entry, or one behind it
+pub first-or-later : {C : Type 0} {queue : List ℕ} {from upto i j : ℕ} → Queued queue from upto i j
+    → (firstOf (getD queue from 0) ≡ i → secondOf (getD queue from 0) ≡ j → C) → (Queued queue (from + 1) upto i j → C)
+    → C
+first-or-later {queue = queue} {from = from} q first later =
+    decided (same (q .at) from)
+    (λ p.
+    let e = ap (λ k. getD queue k 0) (same-true _ _ p) in
+    first (sym (ap firstOf e) ∙ q .first) (sym (ap secondOf e) ∙ q .second))
+    (λ p.
+    let other = same-false _ _ p in
+    later (record {
+      at = q .at;
+      behind = omega (arith, q .behind);
+      ahead = q .ahead;
+      first = q .first;
+      second = q .second;
+    }))
 
 -- x and y behind the entries so far
 module _ (n : ℕ) (queue : List ℕ) (tail x y : ℕ) where

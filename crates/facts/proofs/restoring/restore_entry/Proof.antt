@@ -1,5 +1,6 @@
 -- `facts::restoring::restore_entry` meets its contract.
 use borrow.Author.Needs.{needs}
+use Rattle.facts.proofs.Restores.{entry-restored}
 use Rattle.facts.proofs.restoring.restore_entry.Statement.{statement}
 use Rattle.facts.proofs.restoring.restore_entry.Tie as tie
 
@@ -24,8 +25,8 @@ returns c =
     let at-look = at-store .before in
     let at-second-of = at-look .before .before in
     let at-first-of = at-second-of .before in
-    rw (← at-first-of .first-of .ensures, ← at-second-of .second-of .ensures, ← at-look .look .ensures)
-    (at-store .store .ensures)
+    entry-restored _ _ _ _ _ _ _ _ _ (at-first-of .first-of .ensures) (at-second-of .second-of .ensures)
+    (at-look .look .ensures) (at-store .store .ensures)
 
 pub restore-entry-spec : {M : Type 1} → statement M
 restore-entry-spec =
