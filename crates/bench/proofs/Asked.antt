@@ -17,7 +17,7 @@ use Rattle.rules.proofs.Logic.{last-or-before}
 use Rattle.table.specs.Queue.{queueRoom}
 use Rattle.labels.specs.declared.spread.Spread.{Spread}
 use Rattle.closure.specs.Trials.{Standing, Asking, Tried, Restored}
-use Rattle.bench.specs.Questions.{asked, askedAt, digit, Prepared, Replied, Replies}
+use Rattle.bench.specs.Questions.{asked, askedAt, digit, Answerable, TrialReplied, Replies}
 
 pub clash-digit : (b : Bool) → b ≡ true → 1 ≡ digit b
 unfolding digit
@@ -69,7 +69,7 @@ module _ (kind first number second : ℕ) where
 -- one question
 module _ (kind first number second : ℕ) {n : ℕ} {q : Statement} (e : q ≡ asked kind first number second) where
   pub asking : {closed t queue starts ends features children counts labels : List ℕ} {clash : Clash} {spread : Spread}
-      → Prepared n closed t queue starts ends features children counts labels clash spread → first < n → second < n
+      → Answerable n closed t queue starts ends features children counts labels clash spread → first < n → second < n
       → Asking n closed t queue starts ends features children q
   asking prepared h h′ =
       record {
@@ -79,7 +79,7 @@ module _ (kind first number second : ℕ) {n : ℕ} {q : Statement} (e : q ≡ a
       }
 
   pub replied : {Some : List Statement → Type 0} {clash : Bool} {r : ℕ} → Tried n Some q clash → r ≡ digit clash
-      → Replied n Some (asked kind first number second) r
+      → TrialReplied n Some (asked kind first number second) r
   replied tried told =
       record {
         reply = λ st some.
@@ -94,7 +94,7 @@ pub record Going (n : ℕ) (closed starts ends₀ features₀ children₀ counts
   pub same-ends : ends ≡ ends₀
   pub same-features : features ≡ features₀
   pub same-children : children ≡ children₀
-  pub prepared : Prepared n closed t queue starts ends₀ features₀ children₀ counts labels clash spread
+  pub prepared : Answerable n closed t queue starts ends₀ features₀ children₀ counts labels clash spread
   pub room : length replies ≡ length kinds
   pub done : Replies n (Standing n closed starts ends₀ features₀ children₀ counts labels) kinds firsts numbers seconds k
       replies
@@ -102,8 +102,8 @@ pub record Going (n : ℕ) (closed starts ends₀ features₀ children₀ counts
 -- another queue of the same length, and the table as it was
 with-queue : {n : ℕ} {closed t queue starts ends features children counts labels : List ℕ} {clash : Clash}
     {spread : Spread} (t′ queue′ : List ℕ)
-    → Prepared n closed t queue starts ends features children counts labels clash spread → t′ ≡ closed
-    → length queue′ ≡ queueRoom → Prepared n closed t′ queue′ starts ends features children counts labels clash spread
+    → Answerable n closed t queue starts ends features children counts labels clash spread → t′ ≡ closed
+    → length queue′ ≡ queueRoom → Answerable n closed t′ queue′ starts ends features children counts labels clash spread
 with-queue t′ queue′ prepared copied room =
     let trying = prepared .trying in
     record {
@@ -125,7 +125,7 @@ with-queue t′ queue′ prepared copied room =
 module _ {n : ℕ} {closed starts ends₀ features₀ children₀ counts labels : List ℕ} {clash : Clash} {spread : Spread}
     {kinds firsts numbers seconds : List ℕ} where
   pub going-start : {t queue replies : List ℕ}
-      → Prepared n closed t queue starts ends₀ features₀ children₀ counts labels clash spread
+      → Answerable n closed t queue starts ends₀ features₀ children₀ counts labels clash spread
       → length replies ≡ length kinds
       → Going n closed starts ends₀ features₀ children₀ counts labels clash spread kinds firsts numbers seconds
       t ends₀ features₀ children₀ queue replies 0
@@ -143,16 +143,16 @@ module _ {n : ℕ} {closed starts ends₀ features₀ children₀ counts labels 
   module _ {t ends features children queue replies : List ℕ} {k : ℕ}
       (g : Going n closed starts ends₀ features₀ children₀ counts labels clash spread kinds firsts numbers seconds
       t ends features children queue replies k) where
-    pub prepared-next : Prepared n closed t queue starts ends features children counts labels clash spread
+    pub prepared-next : Answerable n closed t queue starts ends features children counts labels clash spread
     prepared-next = rw (g .same-ends, g .same-features, g .same-children) (g .prepared)
 
     -- the reply to question k
     module _ {ends′ features′ children′ queue′ : List ℕ} (t′ : List ℕ) (r : ℕ) (more : k < length kinds)
-        (now : Replied n (Standing n closed starts ends features children counts labels)
+        (now : TrialReplied n (Standing n closed starts ends features children counts labels)
         (askedAt kinds firsts numbers seconds k) r)
         (same-table : t′ ≡ closed) (kept : Restored ends features children ends′ features′ children′ queue′) where
       reply-each : (x : ℕ) → x < k + 1
-          → Replied n (Standing n closed starts ends₀ features₀ children₀ counts labels)
+          → TrialReplied n (Standing n closed starts ends₀ features₀ children₀ counts labels)
           (askedAt kinds firsts numbers seconds x) (getD (set replies k r) x 0)
       reply-each x h =
           record {

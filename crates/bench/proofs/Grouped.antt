@@ -15,7 +15,7 @@ use Rattle.closure.specs.Trials.{Standing}
 use Rattle.closure.proofs.Theorems.{may-be-told, is-derived-table, stands}
 use Rattle.bench.specs.Lists.{ListsDerive}
 use Rattle.bench.specs.Made.{Made}
-use Rattle.bench.specs.Questions.{Prepared, HeldLabels, Replies}
+use Rattle.bench.specs.Questions.{Answerable, HeldLabels, Replies}
 
 module _ {n : ℕ} {cells lefts rights subjects features children : List ℕ}
     {starts ends group-features group-children closed : List ℕ} (lawful : Selections n subjects features children)
@@ -33,7 +33,7 @@ module _ {n : ℕ} {cells lefts rights subjects features children : List ℕ}
 
     pub prepared : {t queue counts labels : List ℕ} {clash : Clash} {spread : Spread} → t ≡ closed
         → length queue ≡ queueRoom → ClashTold n closed counts labels clash → spread ≡ spreadBelow n counts labels
-        → Prepared n closed t queue starts ends group-features group-children counts labels clash spread
+        → Answerable n closed t queue starts ends group-features group-children counts labels clash spread
     prepared copied room clash spread =
         record {
           copied = copied;

@@ -9,7 +9,7 @@ use native.Mathlib.Omega.{arith}
 use Rattle.rules.proofs.Logic.{contrary, last-or-before}
 use Rattle.selections.specs.Listed.{Selections}
 use Rattle.derivation.specs.Stands.{Pairs}
-use Rattle.bench.specs.Lists.{Below}
+use Rattle.bench.specs.Lists.{AllBelow}
 use Rattle.bench.specs.Questions.{Questions}
 
 -- what is not so is refused
@@ -53,24 +53,24 @@ module _ {bound : ℕ} {list : List ℕ} {k : ℕ} (so-far : BelowSoFar bound li
         each = λ x b. last-or-before x k (omega arith) (λ e. rw e small) (so-far .each x);
       }
 
-  pub so-far-all : length list ≤ k → (true ≡ true) ↔ Below bound list
+  pub so-far-all : length list ≤ k → (true ≡ true) ↔ AllBelow bound list
   so-far-all h = (λ p. record { each = λ x b. so-far .each x (omega arith) }, λ b. refl)
 
-pub not-below : {bound : ℕ} {list : List ℕ} (k : ℕ) → k < length list → bound ≤ getD list k 0 → Below bound list → ⊥
+pub not-below : {bound : ℕ} {list : List ℕ} (k : ℕ) → k < length list → bound ≤ getD list k 0 → AllBelow bound list → ⊥
 not-below k h large below = omega (arith, below .each k h)
 
 -- a list as long as another
-longer : {bound : ℕ} {list : List ℕ} (other : List ℕ) → length list ≡ length other → Below bound list → (k : ℕ)
+longer : {bound : ℕ} {list : List ℕ} (other : List ℕ) → length list ≡ length other → AllBelow bound list → (k : ℕ)
     → k < length other → getD list k 0 < bound
 longer other e below k h = below .each k (omega arith)
 
 shorter : {bound : ℕ} {list : List ℕ} (other : List ℕ) → length list ≡ length other
-    → ((k : ℕ) → k < length other → getD list k 0 < bound) → Below bound list
+    → ((k : ℕ) → k < length other → getD list k 0 < bound) → AllBelow bound list
 shorter other e each = record { each = λ k h. each k (omega arith) }
 
 module _ {n : ℕ} {cells lefts rights : List ℕ} where
-  pub pairs-by : length lefts ≡ length cells → length rights ≡ length cells → Below 4 cells → Below n lefts
-      → Below n rights → Pairs n cells lefts rights
+  pub pairs-by : length lefts ≡ length cells → length rights ≡ length cells → AllBelow 4 cells → AllBelow n lefts
+      → AllBelow n rights → Pairs n cells lefts rights
   pairs-by e f small left right =
       record {
         lefts-too = e;
@@ -80,18 +80,18 @@ module _ {n : ℕ} {cells lefts rights : List ℕ} where
         right-below = longer cells f right;
       }
 
-  pub pairs-small : Pairs n cells lefts rights → Below 4 cells
+  pub pairs-small : Pairs n cells lefts rights → AllBelow 4 cells
   pairs-small p = record { each = p .cell-small }
 
-  pub pairs-left : Pairs n cells lefts rights → Below n lefts
+  pub pairs-left : Pairs n cells lefts rights → AllBelow n lefts
   pairs-left p = shorter cells (p .lefts-too) (p .left-below)
 
-  pub pairs-right : Pairs n cells lefts rights → Below n rights
+  pub pairs-right : Pairs n cells lefts rights → AllBelow n rights
   pairs-right p = shorter cells (p .rights-too) (p .right-below)
 
 module _ {n : ℕ} {subjects features children : List ℕ} where
   pub selections-by : n ≤ 128 → length subjects ≤ 1024 → length features ≡ length subjects
-      → length children ≡ length subjects → Below n subjects → Below n children
+      → length children ≡ length subjects → AllBelow n subjects → AllBelow n children
       → Selections n subjects features children
   selections-by few short e f subject child =
       record {
@@ -103,15 +103,15 @@ module _ {n : ℕ} {subjects features children : List ℕ} where
         child-below = longer subjects f child;
       }
 
-  pub selections-subject : Selections n subjects features children → Below n subjects
+  pub selections-subject : Selections n subjects features children → AllBelow n subjects
   selections-subject s = record { each = s .subject-below }
 
-  pub selections-child : Selections n subjects features children → Below n children
+  pub selections-child : Selections n subjects features children → AllBelow n children
   selections-child s = shorter subjects (s .children-too) (s .child-below)
 
 module _ {n : ℕ} {kinds firsts numbers seconds : List ℕ} {replies : ℕ} where
   pub questions-by : length firsts ≡ length kinds → length numbers ≡ length kinds → length seconds ≡ length kinds
-      → replies ≡ length kinds → Below n firsts → Below n seconds → Questions n kinds firsts numbers seconds replies
+      → replies ≡ length kinds → AllBelow n firsts → AllBelow n seconds → Questions n kinds firsts numbers seconds replies
   questions-by e f g h first second =
       record {
         firsts-too = e;
@@ -122,8 +122,8 @@ module _ {n : ℕ} {kinds firsts numbers seconds : List ℕ} {replies : ℕ} whe
         second-below = longer kinds g second;
       }
 
-  pub questions-first : Questions n kinds firsts numbers seconds replies → Below n firsts
+  pub questions-first : Questions n kinds firsts numbers seconds replies → AllBelow n firsts
   questions-first q = shorter kinds (q .firsts-too) (q .first-below)
 
-  pub questions-second : Questions n kinds firsts numbers seconds replies → Below n seconds
+  pub questions-second : Questions n kinds firsts numbers seconds replies → AllBelow n seconds
   questions-second q = shorter kinds (q .seconds-too) (q .second-below)

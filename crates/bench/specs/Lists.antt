@@ -13,7 +13,7 @@ use Rattle.selections.specs.Stands.{SelectionsStand}
 use Rattle.derivation.specs.Stands.{Pairs, PairsStand}
 
 -- each number of a list is below a bound
-pub record Below (bound : ℕ) (list : List ℕ) : Type 0 where
+pub record AllBelow (bound : ℕ) (list : List ℕ) : Type 0 where
   pub each : (k : ℕ) → k < length list → getD list k 0 < bound
 
 -- lawful lists, and the size of a table for them

@@ -55,13 +55,13 @@ pub record HeldLabels (n : ℕ) (cells lefts rights subjects features children c
   pub labelled : LabelsStand n st counts labels
 
 -- whatever statements they are among some, r says whether they clash with q
-pub record Replied (n : ℕ) (Some : List Statement → Type 0) (q : Statement) (r : ℕ) : Type 0 where
+pub record TrialReplied (n : ℕ) (Some : List Statement → Type 0) (q : Statement) (r : ℕ) : Type 0 where
   pub reply : (st : List Statement) → Some st → r ≡ digit (clashes (st ++ (q ∷ [])) n)
 
 -- each of the first m replies says so of its question
 pub record Replies (n : ℕ) (Some : List Statement → Type 0) (kinds firsts numbers seconds : List ℕ) (m : ℕ)
     (replies : List ℕ) : Type 0 where
-  pub each : (k : ℕ) → k < m → Replied n Some (askedAt kinds firsts numbers seconds k) (getD replies k 0)
+  pub each : (k : ℕ) → k < m → TrialReplied n Some (askedAt kinds firsts numbers seconds k) (getD replies k 0)
 
 -- lawful lists are accepted: the first table is then derived, the second a copy, and each question has its reply;
 -- else all is as it was
@@ -78,7 +78,7 @@ pub record TrialsTold (n : ℕ) (cells lefts rights subjects features children c
   pub refused : r ≡ false → (closed′ ≡ closed) × (t′ ≡ t) × (replies′ ≡ replies)
 
 -- a closed table with a copy, the groups that it is closed by, its labels, and what is told of them
-pub record Prepared (n : ℕ) (closed t queue starts ends features children counts labels : List ℕ) (clash : Clash)
+pub record Answerable (n : ℕ) (closed t queue starts ends features children counts labels : List ℕ) (clash : Clash)
     (spread : Spread) : Type 0 where
   pub copied : t ≡ closed
   pub trying : Trying n closed queue starts ends features children

@@ -5,7 +5,7 @@ ghost use mathlib.Core.Path.{_≡_};
 ghost use Rattle.fields.specs.Tests.{less};
 ghost use Rattle.selections.specs.Listed.{Selections};
 ghost use Rattle.derivation.specs.Stands.{Pairs};
-ghost use Rattle.bench.specs.Lists.{Below, Lawful};
+ghost use Rattle.bench.specs.Lists.{AllBelow, Lawful};
 ghost use Rattle.bench.specs.Questions.{Questions, Askable};
 
 // Whether a number is below a bound.
@@ -17,7 +17,7 @@ fn is_below(x: u8, bound: usize) -> bool
 
 // Whether each number of a list is below a bound.
 fn all_below(bound: usize, list: &[u8]) -> bool
-    ensures { λ r. ⌜ (r ≡ true) ↔ Below bound (now (list .entry)) ⌝ }
+    ensures { λ r. ⌜ (r ≡ true) ↔ AllBelow bound (now (list .entry)) ⌝ }
 {
     let mut k = 0;
     while k < list.len() {

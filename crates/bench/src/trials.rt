@@ -18,8 +18,8 @@ ghost use lib.ListN.{length};
 ghost use mathlib.Core.Path.{_≡_};
 ghost use Rattle.closure.specs.Trials.{Standing, Restored};
 ghost use Rattle.bench.specs.Lists.{ListsDerive};
-ghost use Rattle.bench.specs.Questions.{asked, digit, Questions, Prepared, Askable, HeldLabels};
-ghost use Rattle.bench.specs.Questions.{Replied, Replies, TrialsTold};
+ghost use Rattle.bench.specs.Questions.{asked, digit, Questions, Answerable, Askable, HeldLabels};
+ghost use Rattle.bench.specs.Questions.{TrialReplied, Replies, TrialsTold};
 
 // The question of a kind: 0 for ≤, 1 for ~, 2 for a selection, any other for a label.
 fn question(kind: u8, first: u8, number: u16, second: u8) -> Statement
@@ -66,10 +66,10 @@ fn reply(
     labels: &[u16; 128],
     queue: &mut [u16; ROOM],
 ) -> u8
-    requires { ⌜ Prepared n (now closed) (now t) (now queue) (now starts) (now ends) (now features) (now children)
+    requires { ⌜ Answerable n (now closed) (now t) (now queue) (now starts) (now ends) (now features) (now children)
         (now counts) (now labels) clash spread ⌝ }
     requires { ⌜ (first < n) × (second < n) ⌝ }
-    ensures { λ r. ⌜ Replied n
+    ensures { λ r. ⌜ TrialReplied n
         (Standing n (now (closed .entry)) (now (starts .entry)) (now (ends .entry)) (now (features .entry))
         (now (children .entry)) (now (counts .entry)) (now (labels .entry)))
         (asked kind first number second) r ⌝ }
@@ -115,7 +115,7 @@ fn reply_all(
     replies: &mut [u8],
     queue: &mut [u16; ROOM],
 )
-    requires { ⌜ Prepared n (now closed) (now t) (now queue) (now starts) (now ends) (now features) (now children)
+    requires { ⌜ Answerable n (now closed) (now t) (now queue) (now starts) (now ends) (now features) (now children)
         (now counts) (now labels) clash spread ⌝ }
     requires { ⌜ Questions n (now kinds) (now firsts) (now numbers) (now seconds) (length (now replies)) ⌝ }
     ensures { λ r. ⌜ Replies n

@@ -5,6 +5,7 @@ pub mod Logic
 pub mod Some
 pub mod Lists
 pub mod More
+pub mod Stored
 pub mod Labels
 pub mod Supported
 pub mod Cells

@@ -3,19 +3,19 @@ use Prim.Native.Nat.{_≤_, _-_}
 use lib.ListN.{length, length-set}
 use mathlib.Core.Path.{_≡_, _∙_}
 use native.Mathlib.Omega.{arith}
-use Rattle.table.proofs.Fills.{Filled, filled-none, filled-next}
+use Rattle.table.proofs.Fills.{Written, written-none, written-next}
 use Rattle.facts.specs.Insertion.{markOf}
 use Rattle.facts.proofs.insertion.read_column.Statement.{statement}
 use Rattle.facts.proofs.insertion.read_column.Tie as tie
 
 abbrev Inv-loop : tie.InvT-loop
-Inv-loop t n w u v column₀ x₀ column x = (x ≤ n) × (length column ≡ 128) × (Filled (markOf n t w u v) column x)
+Inv-loop t n w u v column₀ x₀ column x = (x ≤ n) × (length column ≡ 128) × (Written (markOf n t w u v) column x)
 
 abbrev μ-loop : tie.MeasureT-loop
 μ-loop t n w u v column₀ x₀ column x = n - x
 
 loop-holds : tie.Need-loop-holds Inv-loop μ-loop
-loop-holds c = (omega arith, c .before .pre .1, filled-none)
+loop-holds c = (omega arith, c .before .pre .1, written-none)
 
 mark-requires : tie.Need-mark-requires Inv-loop μ-loop
 mark-requires c κs = let s = c .before .before .before .pre .0 in (
@@ -38,7 +38,7 @@ loop-again c =
     let start = at-loop .before .before in (
       omega arith,
       length-set (at-loop .loop .column) _ _ ∙ at-loop .loop .inv .1,
-      filled-next _ (omega (arith, start .pre .0 .few)) (c .mark .ensures) (at-loop .loop .inv .2),
+      written-next _ (omega (arith, start .pre .0 .few)) (c .mark .ensures) (at-loop .loop .inv .2),
     )
 
 returns : tie.Need-returns Inv-loop μ-loop

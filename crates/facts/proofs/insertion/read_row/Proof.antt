@@ -3,19 +3,19 @@ use Prim.Native.Nat.{_≤_, _-_}
 use lib.ListN.{length, length-set}
 use mathlib.Core.Path.{_≡_, _∙_}
 use native.Mathlib.Omega.{arith}
-use Rattle.table.proofs.Fills.{Filled, filled-none, filled-next}
+use Rattle.table.proofs.Fills.{Written, written-none, written-next}
 use Rattle.facts.specs.Insertion.{takenAt}
 use Rattle.facts.proofs.insertion.read_row.Statement.{statement}
 use Rattle.facts.proofs.insertion.read_row.Tie as tie
 
 abbrev Inv-loop : tie.InvT-loop
-Inv-loop t n w v row₀ y₀ row y = (y ≤ n) × (length row ≡ 128) × (Filled (takenAt n t w v) row y)
+Inv-loop t n w v row₀ y₀ row y = (y ≤ n) × (length row ≡ 128) × (Written (takenAt n t w v) row y)
 
 abbrev μ-loop : tie.MeasureT-loop
 μ-loop t n w v row₀ y₀ row y = n - y
 
 loop-holds : tie.Need-loop-holds Inv-loop μ-loop
-loop-holds c = (omega arith, c .before .pre .1, filled-none)
+loop-holds c = (omega arith, c .before .pre .1, written-none)
 
 taken-requires : tie.Need-taken-requires Inv-loop μ-loop
 taken-requires c κs = let s = c .before .before .before .pre .0 in (
@@ -38,7 +38,7 @@ loop-again c =
     let start = at-loop .before .before in (
       omega arith,
       length-set (at-loop .loop .row) _ _ ∙ at-loop .loop .inv .1,
-      filled-next _ (omega (arith, start .pre .0 .few)) (c .taken .ensures) (at-loop .loop .inv .2),
+      written-next _ (omega (arith, start .pre .0 .few)) (c .taken .ensures) (at-loop .loop .inv .2),
     )
 
 returns : tie.Need-returns Inv-loop μ-loop
