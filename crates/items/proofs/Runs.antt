@@ -1,6 +1,6 @@
 -- A run of items, one item on: what the loops over records and questions rest on.
 use Prim.Native.Nat.{ℕ, zero, suc, _+_, _*_, _-_, _<_, _≤_}
-use mathlib.Core.List.{List, _∷_}
+use mathlib.Core.List.{List, [], _∷_}
 use mathlib.Core.Path.{_≡_, refl, sym, ap, _∙_}
 use lib.ListN.{length}
 use native.Mathlib.Nat.{suc-mul}
@@ -35,6 +35,18 @@ module _ (place : Place) (s : List ℕ) (n : ℕ) (c : Cursor) where
   run-refused zero r h e = absurd (omega arith)
   run-refused (suc left) r h e = rw e refl
 
+  -- the items themselves
+  pub items-over : (left : ℕ) → left ≤ 0 → itemsOf left place s n c ≡ []
+  unfolding itemsOf
+  items-over zero h = refl
+  items-over (suc left) h = absurd (omega arith)
+
+  pub items-on : (left : ℕ) (x : Item) (next : Cursor) → 0 < left → itemAt place s n c ≡ ItemRead.Is x next
+      → itemsOf left place s n c ≡ x ∷ itemsOf (left - 1) place s n next
+  unfolding itemsOf
+  items-on zero x next h e = absurd (omega arith)
+  items-on (suc left) x next h e = rw (e, sub-one) refl
+
 -- so many items from c on end behind c, within the sheet, and no further than so many of the longest
 pub record Run (place : Place) (s : List ℕ) (k : ℕ) (c next : Cursor) : Type 0 where
   pub ahead : c .at ≤ next .at
@@ -61,21 +73,24 @@ run-spans place s n (suc k) c =
 never : {r : Refusal} {end : Cursor} → EndRead.Refused r ≡ EndRead.At end → ⊥
 never e = let z : _≡_ {A = ℕ} 0 1 = cc in omega arith
 
--- a run that ends at a cursor refuses none of its items: the first is read, and the rest ends there too
+-- a run that ends at a cursor refuses none of its items
+pub run-reads : (place : Place) (s : List ℕ) (n : ℕ) (c end : Cursor) (left : ℕ) (r : Refusal) → 0 < left
+    → itemsEnd left place s n c ≡ EndRead.At end → itemAt place s n c ≡ ItemRead.Refused r → ⊥
+run-reads place s n c end left r h e i = never (sym (run-refused place s n c left r h i) ∙ e)
+
+-- the first is read, and the rest ends there too
 pub run-next : {C : Type 0} (place : Place) (s : List ℕ) (n : ℕ) (c end : Cursor) (left : ℕ) → 0 < left
     → itemsEnd left place s n c ≡ EndRead.At end
     → ((x : Item) (next : Cursor) → itemAt place s n c ≡ ItemRead.Is x next
     → itemsEnd (left - 1) place s n next ≡ EndRead.At end
     → itemsOf left place s n c ≡ x ∷ itemsOf (left - 1) place s n next → C)
     → C
-unfolding itemsOf
-run-next place s n c end zero h e go = absurd (omega arith)
-run-next {C} place s n c end (suc left) h e go = first (itemAt place s n c) refl
+run-next {C} place s n c end left h e go = first (itemAt place s n c) refl
   where
     first : (r : ItemRead) → itemAt place s n c ≡ r → C
     first (ItemRead.Is x next) i =
-        go x next i (sym (run-on place s n c (suc left) x next h i) ∙ e) (rw (i, sub-one) refl)
-    first (ItemRead.Refused r) i = absurd (never (sym (run-refused place s n c (suc left) r h i) ∙ e))
+        go x next i (sym (run-on place s n c left x next h i) ∙ e) (items-on place s n c left x next h i)
+    first (ItemRead.Refused r) i = absurd (run-reads place s n c end left r h e i)
 
 -- it has as many items as it was asked for
 pub run-count : (place : Place) (s : List ℕ) (n k : ℕ) (c end : Cursor) → itemsEnd k place s n c ≡ EndRead.At end

@@ -1,0 +1,3 @@
+-- How statements come to stand in the lists.
+pub mod Putting
+pub mod Gathered

@@ -1,0 +1,2 @@
+-- The lists in which the statements of a sheet stand.
+pub mod Lists
