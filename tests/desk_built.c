@@ -205,13 +205,19 @@ static void longest(check_function *check)
     finish_refused(check, "longest but a byte", ENGINE_SHEET_ENDS, ENGINE_LONGEST_SHEET - 1);
 }
 
-// Each variable is its own child at features 0 to 7 and has a label of its own. A question i[f]j:
-// i itself; another one, whose label clashes; or any at a feature that is not there.
-static void longest_mixed(check_function *check)
+// Each variable is its own child at features 0 to 7 and has a label of its own.
+static void put_loops(void)
 {
     start(ITEMS, ITEMS);
     for (size_t k = 0; k < ITEMS; k++)
         put_four(k % N, k / N, 257 * (k % N));
+}
+
+// The longest sheet again. A question i[f]j names i itself; another one, whose label clashes; or any
+// at a feature that is not there.
+static void longest_mixed(check_function *check)
+{
+    put_loops();
     for (size_t k = 0; k < ITEMS; k++) {
         size_t i = k % N, f = k / N, j = (i + 31) % N;
         if (k % 3 == 0)
@@ -222,6 +228,24 @@ static void longest_mixed(check_function *check)
             put_selection(i, 256 + f, j), expect(ENGINE_OPEN);
     }
     finish(check, "longest, mixed", ENGINE_CONSISTENT, N, N);
+}
+
+// As many records, and questions of all kinds, about i itself and about another one.
+static void loops_asked(check_function *check)
+{
+    put_loops();
+    for (size_t k = 0; k < ITEMS / 8; k++) {
+        size_t i = k % N, j = (i + 31) % N;
+        put_ordering(i, i), expect(ENGINE_ALWAYS);
+        put_ordering(i, j), expect(ENGINE_NEVER);
+        put_compatibility(i, i), expect(ENGINE_ALWAYS);
+        put_compatibility(i, j), expect(ENGINE_NEVER);
+        put_label(i, 257 * i), expect(ENGINE_ALWAYS);
+        put_label(i, 257 * j), expect(ENGINE_NEVER);
+        put_selection(i, k % 8, j), expect(ENGINE_NEVER);
+        put_selection(i, 8, j), expect(ENGINE_OPEN);
+    }
+    finish(check, "loops, asked", ENGINE_CONSISTENT, N, N);
 }
 
 void built_sheets(check_function *check)
@@ -235,4 +259,5 @@ void built_sheets(check_function *check)
     chains_asked(check);
     longest(check);
     longest_mixed(check);
+    loops_asked(check);
 }

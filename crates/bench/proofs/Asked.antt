@@ -17,7 +17,9 @@ use Rattle.rules.proofs.Logic.{last-or-before}
 use Rattle.table.specs.Queue.{queueRoom}
 use Rattle.labels.specs.declared.spread.Spread.{Spread}
 use Rattle.closure.specs.Trials.{Standing, Asking, Tried, Restored}
-use Rattle.bench.specs.Questions.{asked, askedAt, digit, Answerable, TrialReplied, Replies}
+use Rattle.bench.specs.Questions.{asked, askedAt, digit, TrialReplied, Replies}
+use Rattle.closure.specs.Making.{Answerable}
+use Rattle.closure.proofs.Grouped.{with-queue}
 
 pub clash-digit : (b : Bool) → b ≡ true → 1 ≡ digit b
 unfolding digit
@@ -98,29 +100,6 @@ pub record Going (n : ℕ) (closed starts ends₀ features₀ children₀ counts
   pub room : length replies ≡ length kinds
   pub done : Replies n (Standing n closed starts ends₀ features₀ children₀ counts labels) kinds firsts numbers seconds k
       replies
-
--- another queue of the same length, and the table as it was
-with-queue : {n : ℕ} {closed t queue starts ends features children counts labels : List ℕ} {clash : Clash}
-    {spread : Spread} (t′ queue′ : List ℕ)
-    → Answerable n closed t queue starts ends features children counts labels clash spread → t′ ≡ closed
-    → length queue′ ≡ queueRoom → Answerable n closed t′ queue′ starts ends features children counts labels clash spread
-with-queue t′ queue′ prepared copied room =
-    let trying = prepared .trying in
-    record {
-      copied = copied;
-      trying =
-          record {
-            few = trying .few;
-            shape = trying .shape;
-            framed = trying .framed;
-            descends = trying .descends;
-            queue-size = room;
-            groups = trying .groups;
-            spare = trying .spare;
-          };
-      clash-told = prepared .clash-told;
-      spread-told = prepared .spread-told;
-    }
 
 module _ {n : ℕ} {closed starts ends₀ features₀ children₀ counts labels : List ℕ} {clash : Clash} {spread : Spread}
     {kinds firsts numbers seconds : List ℕ} where

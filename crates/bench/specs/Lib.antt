@@ -1,4 +1,3 @@
 -- What the exported functions say of the lists that they are lent.
 pub mod Lists
-pub mod Made
 pub mod Questions

@@ -1,5 +1,5 @@
 -- Lists of pairs and selections: which are lawful, and the table that is derived from them.
-use Prim.Native.Nat.{ℕ, _*_, _<_}
+use Prim.Native.Nat.{ℕ, _<_}
 use lib.ListN.{length, getD}
 use mathlib.Core.Bool.{Bool, true, false}
 use mathlib.Core.List.{List}
@@ -8,19 +8,14 @@ use mathlib.Core.Path.{_≡_}
 use Rattle.items.specs.declared.items.Statement.{Statement}
 use Rattle.items.specs.Statements.{AllName}
 use Rattle.rules.specs.Derived.{derived}
-use Rattle.selections.specs.Listed.{Selections, Listed}
+use Rattle.selections.specs.Listed.{Listed}
 use Rattle.selections.specs.Stands.{SelectionsStand}
-use Rattle.derivation.specs.Stands.{Pairs, PairsStand}
+use Rattle.derivation.specs.Stands.{PairsStand}
+use Rattle.closure.specs.Making.{Lawful}
 
 -- each number of a list is below a bound
 pub record AllBelow (bound : ℕ) (list : List ℕ) : Type 0 where
   pub each : (k : ℕ) → k < length list → getD list k 0 < bound
-
--- lawful lists, and the size of a table for them
-pub record Lawful (n : ℕ) (cells lefts rights subjects features children : List ℕ) (size : ℕ) : Type 0 where
-  pub pairs : Pairs n cells lefts rights
-  pub selections : Selections n subjects features children
-  pub square : size ≡ n * n
 
 -- statements that stand in the lists
 pub record Held (n : ℕ) (cells lefts rights subjects features children : List ℕ) (st : List Statement) : Type 0 where

@@ -7,15 +7,11 @@ use mathlib.Core.Logic.{_↔_}
 use mathlib.Core.Path.{_≡_}
 use Rattle.fields.specs.Tests.{same, pick}
 use Rattle.items.specs.declared.items.Statement.{Statement}
-use Rattle.rules.specs.declared.clashes.Clash.{Clash}
 use Rattle.rules.specs.Stated.{ordering, compatibility, selection, labelling}
 use Rattle.rules.specs.Clashes.{clashes}
-use Rattle.labels.specs.declared.spread.Spread.{Spread}
 use Rattle.labels.specs.Labels.{LabelsStand}
-use Rattle.labels.specs.Spreads.{spreadBelow}
-use Rattle.answers.specs.Clashes.{ClashTold}
-use Rattle.closure.specs.Trials.{Trying}
-use Rattle.bench.specs.Lists.{Lawful, Held, ListsDerive}
+use Rattle.closure.specs.Making.{Lawful}
+use Rattle.bench.specs.Lists.{Held, ListsDerive}
 
 -- the question of a kind: 0 for ≤, 1 for ~, 2 for a selection, any other for a label
 unfoldable pub asked : ℕ → ℕ → ℕ → ℕ → Statement
@@ -76,11 +72,3 @@ pub record TrialsTold (n : ℕ) (cells lefts rights subjects features children c
       → Replies n (HeldLabels n cells lefts rights subjects features children counts labels) kinds firsts numbers
       seconds (length kinds) replies′
   pub refused : r ≡ false → (closed′ ≡ closed) × (t′ ≡ t) × (replies′ ≡ replies)
-
--- a closed table with a copy, the groups that it is closed by, its labels, and what is told of them
-pub record Answerable (n : ℕ) (closed t queue starts ends features children counts labels : List ℕ) (clash : Clash)
-    (spread : Spread) : Type 0 where
-  pub copied : t ≡ closed
-  pub trying : Trying n closed queue starts ends features children
-  pub clash-told : ClashTold n closed counts labels clash
-  pub spread-told : spread ≡ spreadBelow n counts labels

@@ -5,7 +5,8 @@ ghost use mathlib.Core.Path.{_≡_};
 ghost use Rattle.fields.specs.Tests.{less};
 ghost use Rattle.selections.specs.Listed.{Selections};
 ghost use Rattle.derivation.specs.Stands.{Pairs};
-ghost use Rattle.bench.specs.Lists.{AllBelow, Lawful};
+ghost use Rattle.closure.specs.Making.{Lawful};
+ghost use Rattle.bench.specs.Lists.{AllBelow};
 ghost use Rattle.bench.specs.Questions.{Questions, Askable};
 
 // Whether a number is below a bound.

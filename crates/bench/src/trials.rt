@@ -1,7 +1,7 @@
 // The trials of many questions.
 use crate::lists::askable;
-use crate::making::make;
 use answers::clash_of;
+use closure::make;
 use closure::trial;
 use fields::Feature;
 use fields::Label;
@@ -17,8 +17,9 @@ ghost use Prim.Native.Nat.{_<_};
 ghost use lib.ListN.{length};
 ghost use mathlib.Core.Path.{_≡_};
 ghost use Rattle.closure.specs.Trials.{Standing, Restored};
+ghost use Rattle.closure.specs.Making.{Answerable};
 ghost use Rattle.bench.specs.Lists.{ListsDerive};
-ghost use Rattle.bench.specs.Questions.{asked, digit, Questions, Answerable, Askable, HeldLabels};
+ghost use Rattle.bench.specs.Questions.{asked, digit, Questions, Askable, HeldLabels};
 ghost use Rattle.bench.specs.Questions.{TrialReplied, Replies, TrialsTold};
 
 // The question of a kind: 0 for ≤, 1 for ~, 2 for a selection, any other for a label.

@@ -5,3 +5,4 @@ pub mod TryingSelection
 pub mod Tried
 pub mod Questions
 pub mod Theorems
+pub mod Grouped

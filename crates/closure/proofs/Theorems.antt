@@ -23,7 +23,7 @@ use Rattle.answers.specs.Clashes.{ClashTold}
 use Rattle.answers.specs.Supports.{SingleLabels, SupportTold}
 use Rattle.answers.proofs.OneLabel.{single-labels}
 use Rattle.derivation.specs.Stands.{PairsStand, Pairs, Deriving, DerivedFrom}
-use Rattle.closure.specs.Trials.{Standing, Tried, Asking}
+use Rattle.closure.specs.Trials.{Trying, Standing, Tried, Asking}
 
 -- groups made of a selection list
 module _ {n : ℕ} {subjects features children starts₀ ends₀ features₀ children₀ : List ℕ}
@@ -41,23 +41,22 @@ module _ {n : ℕ} {subjects features children starts₀ ends₀ features₀ chi
     may-be-told = record { few = lawful .few; shape = from .shape }
 
     -- a question may be tried in a copy of it
+    pub may-try : (queue : List ℕ) → length queue ≡ queueRoom
+        → Trying n t queue starts ends group-features group-children
+    may-try queue room =
+        record {
+          few = lawful .few;
+          shape = from .shape;
+          framed = from .framed;
+          descends = from .descends;
+          queue-size = room;
+          groups = made-groups lawful grouping;
+          spare = made-spare lawful grouping;
+        }
+
     pub may-ask : (work queue : List ℕ) (q : Statement) → work ≡ t → length queue ≡ queueRoom → Names n q
         → Asking n t work queue starts ends group-features group-children q
-    may-ask work queue q copied room named =
-        record {
-          copied = copied;
-          trying =
-              record {
-                few = lawful .few;
-                shape = from .shape;
-                framed = from .framed;
-                descends = from .descends;
-                queue-size = room;
-                groups = made-groups lawful grouping;
-                spare = made-spare lawful grouping;
-              };
-          names = named;
-        }
+    may-ask work queue q copied room named = record { copied = copied; trying = may-try queue room; names = named }
 
     -- statements that stand in the arrays
     module _ {st : List Statement} (names : AllName n st) (pairs : PairsStand st cells lefts rights)

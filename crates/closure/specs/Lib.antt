@@ -1,2 +1,3 @@
--- Trials.
+-- Trials, and what is made for them.
 pub mod Trials
+pub mod Making

@@ -1,7 +1,8 @@
 -- `bench::trials::derive_and_reply` meets its contract: what the groups reply is what the lists reply.
 use borrow.Author.Needs.{needs}
 use mathlib.Core.Path.{refl}
-use Rattle.bench.proofs.Grouped.{lists-derive, lists-lent, prepared, lists-replies}
+use Rattle.closure.proofs.Grouped.{made-lent, made-answerable}
+use Rattle.bench.proofs.Grouped.{lists-derive, lists-replies}
 use Rattle.bench.proofs.trials.derive_and_reply.Statement.{statement}
 use Rattle.bench.proofs.trials.derive_and_reply.Tie as tie
 
@@ -19,7 +20,7 @@ clash-of-requires c κs =
     let at-make = c .before .before .before .before .before .before .before .before in
     let start = at-make .before .before .before .before .before .before .before .before .before .before .before
     .before .before .before .before .before .before .before .before .before in
-    lists-lent (start .pre .lawful .selections) (at-make .make .ensures .0)
+    made-lent (start .pre .lawful .selections) (at-make .make .ensures .0)
 
 spread-of-requires : tie.Need-spread-of-requires
 spread-of-requires c κs =
@@ -37,7 +38,7 @@ reply-all-requires c κs =
     let start = at-make .before .before .before .before .before .before .before .before .before .before .before
     .before .before .before .before .before .before .before .before .before in
     let s = start .pre in (
-      prepared (s .lawful .selections) (at-make .make .ensures .0) (at-copy .copy .ensures) (at-make .make .ensures .1)
+      made-answerable (s .lawful .selections) (at-make .make .ensures .0) (at-copy .copy .ensures) (at-make .make .ensures .1)
           (at-clash-of .clash-of .ensures) (at-spread-of .spread-of .ensures),
       s .questions,
     )

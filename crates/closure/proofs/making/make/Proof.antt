@@ -1,8 +1,8 @@
--- `bench::making::make` meets its contract.
+-- `closure::making::make` meets its contract.
 use borrow.Author.Needs.{needs}
 use Rattle.closure.proofs.Theorems.{may-derive}
-use Rattle.bench.proofs.making.make.Statement.{statement}
-use Rattle.bench.proofs.making.make.Tie as tie
+use Rattle.closure.proofs.making.make.Statement.{statement}
+use Rattle.closure.proofs.making.make.Tie as tie
 
 group-requires : tie.Need-group-requires
 group-requires c κs =
