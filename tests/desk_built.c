@@ -213,8 +213,8 @@ static void put_loops(void)
         put_four(k % N, k / N, 257 * (k % N));
 }
 
-// The longest sheet again. A question i[f]j names i itself; another one, whose label clashes; or any
-// at a feature that is not there.
+// The longest sheet again. A question i[f]j names i itself; another one, whose label clashes; or
+// any at a feature that is not there.
 static void longest_mixed(check_function *check)
 {
     put_loops();

@@ -25,6 +25,11 @@ pub all-from : (P Q R : Statement → Type 0) (st : List Statement) → ((x : St
     → All P st → All Q st → All R st
 all-from P Q R st h p q = all-by R st (λ x m. h x (all-one P st p m) (all-one Q st q m))
 
+-- two lists, one behind the other
+pub all-split : (P : Statement → Type 0) (xs ys : List Statement) → All P (xs ++ ys) → All P xs × All P ys
+all-split P [] ys h = (tt, h)
+all-split P (x ∷ xs) ys h = let rest = all-split P xs ys (h .1) in ((h .0, rest .0), rest .1)
+
 -- one statement more, behind the list
 pub all-with : (P : Statement → Type 0) (st : List Statement) (q : Statement) → All P st → P q → All P (st ++ (q ∷ []))
 all-with P [] q h p = (p, tt)
@@ -32,8 +37,7 @@ all-with P (x ∷ st) q h p = (h .0, all-with P st q (h .1) p)
 
 pub all-without : (P : Statement → Type 0) (st : List Statement) (q : Statement) → All P (st ++ (q ∷ []))
     → All P st × P q
-all-without P [] q h = (tt, h .0)
-all-without P (x ∷ st) q h = let rest = all-without P st q (h .1) in ((h .0, rest .0), rest .1)
+all-without P st q h = let parts = all-split P st (q ∷ []) h in (parts .0, parts .1 .0)
 
 -- a statement of a list that names variables below n does so
 pub named : (n : ℕ) {x : Statement} (st : List Statement) → AllName n st → Stated st x → Names n x

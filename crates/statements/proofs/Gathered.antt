@@ -17,12 +17,11 @@ use Rattle.items.specs.Statements.{Names, AllName, statementsOf}
 use Rattle.items.proofs.Runs.{run-on, run-reads, items-over, items-on}
 use Rattle.sheet.specs.Sheets.{allStatements, sheetOf, sheetAt}
 use Rattle.sheet.proofs.Theorems.{accepted-read, accepted-sheet, accepted-names}
-use Rattle.rules.proofs.Lists.{all-name-more}
+use Rattle.rules.proofs.Lists.{all-split, all-name-more}
 use Rattle.selections.proofs.Stands.{no-selections, no-selections-stand}
 use Rattle.labels.proofs.Kept.{no-labels}
 use Rattle.derivation.proofs.Stands.{no-pairs, no-pairs-stand}
 use Rattle.statements.specs.Lists.{Lists, Stand, Sized, Putting, Put, Gathering}
-use Rattle.statements.proofs.Putting.{all-split}
 
 -- with so many records left to read, from a cursor on
 pub record Gathers (s : List ℕ) (n left : ℕ) (cursor : Cursor) (x : Lists) : Type 0 where

@@ -9,9 +9,10 @@ use native.Mathlib.Omega.{arith}
 use Rattle.fields.specs.Tests.{pick, has}
 use Rattle.items.specs.declared.items.Item.{Item}
 use Rattle.items.specs.declared.items.Statement.{Statement}
-use Rattle.items.specs.Statements.{All, Names, AllName, statedIf, statementsOf}
+use Rattle.items.specs.Statements.{Names, AllName, statedIf, statementsOf}
 use Rattle.rules.specs.Stated.{selection, labelling}
 use Rattle.rules.specs.Facts.{Kind, ordered, compatible, fact}
+use Rattle.rules.proofs.Lists.{all-split}
 use Rattle.selections.proofs.Stands.{subjectIn, more-selections, more-selections-stand, other-than-selection}
 use Rattle.labels.specs.Labels.{NoLabelling, countsWith, labelsWith}
 use Rattle.labels.proofs.Kept.{noted, other-kind}
@@ -21,11 +22,6 @@ use Rattle.statements.specs.Lists.{Lists, Stand, Sized, Putting, Put, pa
 -- one entry more in use
 grown : (l : List ℕ) (k v : ℕ) → k < length l → take (k + 1) (set l k v) ≡ take k l ++ (v ∷ [])
 grown l k v h = let e : k + 1 ≡ suc k = omega arith in rw e (take-suc-set l k v h)
-
--- a property of all statements of two lists
-pub all-split : (P : Statement → Type 0) (xs ys : List Statement) → All P (xs ++ ys) → All P xs × All P ys
-all-split P [] ys h = (tt, h)
-all-split P (x ∷ xs) ys h = let rest = all-split P xs ys (h .1) in ((h .0, rest .0), rest .1)
 
 -- a list is as it was, or has another entry at a place
 pub record SamePairs (x y : Lists) : Type 0 where

@@ -1,0 +1,4 @@
+-- Laws of replies.
+pub mod Told
+pub mod Answered
+pub mod Going

@@ -1,0 +1,2 @@
+-- Replies to questions.
+pub mod Replying
