@@ -84,9 +84,16 @@ remain s end = less (end .at) (length s)
 abbrev pub trailingRefusal : Cursor → Refusal
 trailingRefusal end = refusal Fault.Trailing (end .at)
 
--- 8, a lent table: shorter than the table size; 9, the reply buffer: shorter than the question count; both told at 0
+-- 8, a lent table: shorter than the table size; told at 0
+unfoldable pub shortTable : ℕ → ℕ → Bool
+shortTable size lent = less lent size
+
 abbrev pub tableRefusal : Refusal
 tableRefusal = refusal Fault.ShortTable 0
+
+-- 9, the reply buffer: shorter than the question count; told at 0
+unfoldable pub shortReplies : ℕ → ℕ → Bool
+shortReplies questions lent = less lent questions
 
 abbrev pub repliesRefusal : Refusal
 repliesRefusal = refusal Fault.ShortReplies 0

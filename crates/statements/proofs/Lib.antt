@@ -1,3 +1,3 @@
 -- How statements come to stand in the lists.
 pub mod Putting
-pub mod Gathered
+pub mod Records

@@ -44,16 +44,21 @@ lists pairs selections cells lefts rights subjects features children counts labe
       labels = labels;
     }
 
--- what is in use of them is lawful, and the statements st are those that stand in it
-pub record Stand (n : ℕ) (st : List Statement) (x : Lists) : Type 0 where
-  pub lawful-pairs : Pairs n (take (x .pairs) (x .cells)) (take (x .pairs) (x .lefts)) (take (x .pairs) (x .rights))
-  pub pairs-stand : PairsStand st (take (x .pairs) (x .cells)) (take (x .pairs) (x .lefts)) (take (x .pairs) (x .rights))
-  pub lawful-selections : Selections n (take (x .selections) (x .subjects)) (take (x .selections) (x .features))
-      (take (x .selections) (x .children))
-  pub selections-stand : SelectionsStand n st
-      (Listed (take (x .selections) (x .subjects)) (take (x .selections) (x .features))
-      (take (x .selections) (x .children)))
-  pub labelled : LabelsStand n st (x .counts) (x .labels)
+-- the statements st are those that stand in lawful lists
+pub record InLists (n : ℕ) (st : List Statement) (cells lefts rights subjects features children counts labels : List ℕ)
+    : Type 0 where
+  pub lawful-pairs : Pairs n cells lefts rights
+  pub pairs-stand : PairsStand st cells lefts rights
+  pub lawful-selections : Selections n subjects features children
+  pub selections-stand : SelectionsStand n st (Listed subjects features children)
+  pub labelled : LabelsStand n st counts labels
+
+-- those that stand in what is in use
+abbrev pub Stand : ℕ → List Statement → Lists → Type 0
+Stand n st x =
+    InLists n st (take (x .pairs) (x .cells)) (take (x .pairs) (x .lefts)) (take (x .pairs) (x .rights))
+    (take (x .selections) (x .subjects)) (take (x .selections) (x .features)) (take (x .selections) (x .children))
+    (x .counts) (x .labels)
 
 -- the lists have the lengths of the lent arrays
 pub record Sized (x : Lists) : Type 0 where
@@ -98,3 +103,13 @@ pub record Gathering (s : List ℕ) (h : Header) (x : Lists) : Type 0 where
   pub sized : Sized x
   pub no-counts : x .counts ≡ replicate 128 0
   pub labels-size : length (x .labels) ≡ 128
+
+-- the statements of a sheet stand in lists, and none is in use further than it goes
+pub record Gathered (n : ℕ) (st : List Statement) (x : Lists) : Type 0 where
+  pub stand : Stand n st x
+  pub cells-hold : x .pairs ≤ length (x .cells)
+  pub lefts-hold : x .pairs ≤ length (x .lefts)
+  pub rights-hold : x .pairs ≤ length (x .rights)
+  pub subjects-hold : x .selections ≤ length (x .subjects)
+  pub features-hold : x .selections ≤ length (x .features)
+  pub children-hold : x .selections ≤ length (x .children)

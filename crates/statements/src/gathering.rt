@@ -7,7 +7,7 @@ use headers::Header;
 use items::ItemRead;
 use items::read_record;
 ghost use Rattle.sheet.specs.Sheets.{sheetOf};
-ghost use Rattle.statements.specs.Lists.{lists, Gathering, Stand};
+ghost use Rattle.statements.specs.Lists.{lists, Gathering, Gathered};
 
 // Puts what the records of an accepted sheet state into lists, in which nothing stands yet: how many pairs and
 // selections there are.
@@ -26,7 +26,7 @@ pub fn gather(
     requires { ⌜ Gathering (now sheet) header
         (lists 0 0 (now cells) (now lefts) (now rights) (now subjects) (now features) (now children) (now counts)
         (now labels)) ⌝ }
-    ensures { λ r. ⌜ Stand (header .variables) (sheetOf (now (sheet .entry)) .stated)
+    ensures { λ r. ⌜ Gathered (header .variables) (sheetOf (now (sheet .entry)) .stated)
         (lists (r .pairs) (r .selections) (now (cells .exit)) (now (lefts .exit)) (now (rights .exit))
         (now (subjects .exit)) (now (features .exit)) (now (children .exit)) (now (counts .exit))
         (now (labels .exit))) ⌝ }

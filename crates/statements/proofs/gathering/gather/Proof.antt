@@ -3,8 +3,8 @@ use borrow.Author.Needs.{needs}
 use mathlib.Core.Path.{refl, sym, _∙_}
 use native.Mathlib.Omega.{arith}
 use Rattle.statements.specs.Lists.{lists}
-use Rattle.statements.proofs.Gathered.{Gathers, gathers-start, gathers-put, gathers-next, none-refused}
-use Rattle.statements.proofs.Gathered.{gathers-end}
+use Rattle.statements.proofs.Records.{Gathers, gathers-start, gathers-put, gathers-next, none-refused}
+use Rattle.statements.proofs.Records.{gathers-end}
 use Rattle.statements.proofs.gathering.gather.Statement.{statement}
 use Rattle.statements.proofs.gathering.gather.Tie as tie
 

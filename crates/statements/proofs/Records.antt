@@ -21,7 +21,7 @@ use Rattle.rules.proofs.Lists.{all-split, all-name-more}
 use Rattle.selections.proofs.Stands.{no-selections, no-selections-stand}
 use Rattle.labels.proofs.Kept.{no-labels}
 use Rattle.derivation.proofs.Stands.{no-pairs, no-pairs-stand}
-use Rattle.statements.specs.Lists.{Lists, Stand, Sized, Putting, Put, Gathering}
+use Rattle.statements.specs.Lists.{Lists, Stand, Sized, Putting, Put, Gathering, Gathered}
 
 -- with so many records left to read, from a cursor on
 pub record Gathers (s : List ℕ) (n left : ℕ) (cursor : Cursor) (x : Lists) : Type 0 where
@@ -108,8 +108,16 @@ module _ {s : List ℕ} {n left : ℕ} {cursor : Cursor} {x : Lists} (g : Gather
 
 -- behind the last record
 pub gathers-end : {s : List ℕ} {n left : ℕ} {cursor : Cursor} {x : Lists} → Gathers s n left cursor x → left ≤ 0
-    → Stand n (sheetOf s .stated) x
+    → Gathered n (sheetOf s .stated) x
 gathers-end {s} {n} {left} {cursor} g over =
     let e = g .rest ∙ ap (λ y. g .done ++ allStatements y) (items-over Place.Record s n cursor left over)
     ∙ append-nil (g .done) in
-    rw e (g .stand)
+    record {
+      stand = rw e (g .stand);
+      cells-hold = omega (arith, g .pairs-room, g .sized .cells);
+      lefts-hold = omega (arith, g .pairs-room, g .sized .lefts);
+      rights-hold = omega (arith, g .pairs-room, g .sized .rights);
+      subjects-hold = omega (arith, g .selections-room, g .sized .subjects);
+      features-hold = omega (arith, g .selections-room, g .sized .features);
+      children-hold = omega (arith, g .selections-room, g .sized .children);
+    }

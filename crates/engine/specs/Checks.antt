@@ -1,0 +1,93 @@
+-- What a check of any bytes gives, and what it leaves in the lent buffers.
+use Prim.Native.Nat.{ℕ, _*_}
+use lib.ListN.{length, drop, replicate}
+use mathlib.Core.List.{List, _++_, map}
+use mathlib.Core.Path.{_≡_}
+use Rattle.fields.specs.declared.numbers.Cursor.{Cursor}
+use Rattle.fields.specs.declared.refusals.Refusal.{Refusal}
+use Rattle.fields.specs.Refusals.{shortTable, tableRefusal, shortReplies, repliesRefusal}
+use Rattle.fields.specs.Tests.{pick}
+use Rattle.headers.specs.declared.headers.Header.{Header}
+use Rattle.headers.specs.Headers.{tableSize}
+use Rattle.sheet.specs.declared.whole.SheetRead.{SheetRead}
+use Rattle.sheet.specs.Sheets.{Sheet, thenSheet, readSheet, sheetOf}
+use Rattle.rules.specs.declared.clashes.Clash.{Clash}
+use Rattle.rules.specs.Facts.{ordered, compatible}
+use Rattle.rules.specs.Tables.{countFacts}
+use Rattle.rules.specs.Derived.{derived, factsOf}
+use Rattle.rules.specs.Clashes.{clashOf}
+use Rattle.rules.specs.Replies.{repliesOf, replyNumber}
+use Rattle.engine.specs.declared.outcomes.Outcome.{Outcome}
+use Rattle.engine.specs.Outcomes.{packed}
+
+-- rows 8 and 9, behind the whole sheet: either table too short for it, then the reply buffer
+unfoldable pub lentTo : Header → Cursor → ℕ → ℕ → ℕ → SheetRead
+lentTo h asked facts work replies =
+    pick (shortTable (tableSize h) facts) (SheetRead.Refused tableRefusal)
+    (pick (shortTable (tableSize h) work) (SheetRead.Refused tableRefusal)
+    (pick (shortReplies (h .questions) replies) (SheetRead.Refused repliesRefusal)
+    (SheetRead.Accepted h asked)))
+
+-- all rows in their order, for bytes and three lent lengths
+unfoldable pub judged : List ℕ → ℕ → ℕ → ℕ → SheetRead
+judged b facts work replies =
+    thenSheet (readSheet b) SheetRead.Refused λ h asked. lentTo h asked facts work replies
+
+-- of a sheet: how many facts there are of each kind, or the pair that clashes
+abbrev pub ofClash : Sheet → Clash → Outcome
+ofClash s Clash.Nowhere =
+    Outcome.Consistent (countFacts (s .n) (factsOf (s .stated) (s .n)) ordered)
+    (countFacts (s .n) (factsOf (s .stated) (s .n)) compatible)
+ofClash s (Clash.Between i j) = Outcome.Clash i j
+
+abbrev pub ofRefusal : Refusal → Outcome
+ofRefusal r = Outcome.Refused (r .fault) (r .at)
+
+-- the outcome
+unfoldable pub outcomeOf : List ℕ → ℕ → ℕ → ℕ → Outcome
+outcomeOf b facts work replies =
+    thenSheet (judged b facts work replies) ofRefusal
+    λ h asked. ofClash (sheetOf b) (clashOf (sheetOf b .stated) (sheetOf b .n))
+
+-- the first bytes of a buffer written over, and the others as they were
+abbrev pub over : List ℕ → List ℕ → List ℕ
+over first buffer = first ++ drop (length first) buffer
+
+-- written where nothing clashes, else as it was
+abbrev pub whereConsistent : Clash → List ℕ → List ℕ → List ℕ
+whereConsistent Clash.Nowhere written buffer = written
+whereConsistent (Clash.Between i j) written buffer = buffer
+
+-- of an accepted sheet: the first table is the derived one, on a clash too
+abbrev pub factsAfter : Sheet → List ℕ → List ℕ
+factsAfter s facts = over (derived (s .stated) (s .n)) facts
+
+-- the second table is cleared where the sheet is consistent
+abbrev pub workAfter : Sheet → List ℕ → List ℕ
+workAfter s work = whereConsistent (clashOf (s .stated) (s .n)) (over (replicate (s .n * s .n) 0) work) work
+
+-- and there is then one reply a question
+abbrev pub repliesAfter : Sheet → List ℕ → List ℕ
+repliesAfter s replies =
+    whereConsistent (clashOf (s .stated) (s .n)) (over (map replyNumber (repliesOf s)) replies) replies
+
+-- what a buffer holds: as it was where the call is refused
+abbrev pub written : SheetRead → Sheet → (Sheet → List ℕ → List ℕ) → List ℕ → List ℕ
+written read s after buffer = thenSheet read (λ r. buffer) (λ h asked. after s buffer)
+
+-- every lent byte afterwards
+pub record Written (b facts work replies facts′ work′ replies′ : List ℕ) : Type 0 where
+  pub facts-are : facts′ ≡ written (judged b (length facts) (length work) (length replies)) (sheetOf b) factsAfter facts
+  pub work-is : work′ ≡ written (judged b (length facts) (length work) (length replies)) (sheetOf b) workAfter work
+  pub replies-are : replies′
+      ≡ written (judged b (length facts) (length work) (length replies)) (sheetOf b) repliesAfter replies
+
+-- the result and every lent byte
+pub record Checked (b facts work replies facts′ work′ replies′ : List ℕ) (r : Outcome) : Type 0 where
+  pub outcome : r ≡ outcomeOf b (length facts) (length work) (length replies)
+  pub buffers : Written b facts work replies facts′ work′ replies′
+
+-- the same of the packed number
+pub record Returned (b facts work replies facts′ work′ replies′ : List ℕ) (r : ℕ) : Type 0 where
+  pub number : r ≡ packed (outcomeOf b (length facts) (length work) (length replies))
+  pub buffers : Written b facts work replies facts′ work′ replies′
