@@ -2,3 +2,6 @@
 pub mod Judging
 pub mod Steps
 pub mod Whole
+pub mod Packed
+pub mod Meaning
+pub mod Labelled

@@ -9,7 +9,13 @@ ghost use mathlib.Core.Path.{_≡_};
 ghost use Rattle.engine.specs.Checks.{lentTo, judged};
 
 // Rows 8 and 9.
-fn judge_buffers(header: Header, asked: Cursor, facts: usize, work: usize, replies: usize) -> SheetRead
+fn judge_buffers(
+    header: Header,
+    asked: Cursor,
+    facts: usize,
+    work: usize,
+    replies: usize,
+) -> SheetRead
     ensures { λ r. ⌜ r ≡ lentTo header asked facts work replies ⌝ }
 {
     let size = header.table_size();

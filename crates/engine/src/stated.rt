@@ -1,11 +1,11 @@
 // The label that a sheet states for a variable.
-use sheet::Label;
-use sheet::Variable;
 use sheet::Cursor;
 use sheet::Header;
 use sheet::Item;
 use sheet::ItemRead;
+use sheet::Label;
 use sheet::SheetRead;
+use sheet::Variable;
 use sheet::has_bit;
 use sheet::read_record;
 use sheet::read_sheet;

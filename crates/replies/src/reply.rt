@@ -41,16 +41,7 @@ pub fn reply(
     ensures { λ r. ⌜ Restored (now (ends .entry)) (now («group_features» .entry)) (now («group_children» .entry))
         (now (ends .exit)) (now («group_features» .exit)) (now («group_children» .exit)) (now (queue .exit)) ⌝ }
 {
-    if supports(
-        closed,
-        n,
-        subjects,
-        features,
-        children,
-        counts,
-        labels,
-        q,
-    ) {
+    if supports(closed, n, subjects, features, children, counts, labels, q) {
         return Reply::Always;
     }
     if trial(

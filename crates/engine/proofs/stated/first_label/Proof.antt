@@ -1,67 +1,61 @@
+-- `engine::stated::first_label` meets its contract: records without a label are passed over.
+use borrow.Author.Needs.{needs}
+use mathlib.Core.Path.{_≡_, refl, sym, ap, _∙_}
+use native.Mathlib.Omega.{arith}
+use Rattle.rules.specs.Replies.{statedLabel}
+use Rattle.engine.specs.Stated.{labelIn, statedFrom}
+use Rattle.engine.proofs.Labelled.{labels-over, label-found, label-later, labels-refused}
 use Rattle.engine.proofs.stated.first_label.Statement.{statement}
 use Rattle.engine.proofs.stated.first_label.Tie as tie
-use Rattle.engine.proofs.stated.first_label.Reads as reads
-use Rattle.engine.proofs.stated.first_label.Lts as lts
-use Rattle.engine.proofs.stated.label_of.Reads as label-of-reads
-use Rattle.items.proofs.read_record.Reads as read-record-reads
 
 abbrev Inv-loop : tie.InvT-loop
-Inv-loop sheet n count i left₀ cursor₀ left cursor = ?
+Inv-loop sheet n count i _ from left cursor =
+    statedLabel (statedFrom left sheet n cursor) (i .0) ≡ statedLabel (statedFrom count sheet n from) (i .0)
 
 abbrev μ-loop : tie.MeasureT-loop
-μ-loop sheet n count i left₀ cursor₀ left cursor = ?
+μ-loop _ _ _ _ _ _ left _ = left
 
--- src/stated.rt:45:5
 loop-holds : tie.Need-loop-holds Inv-loop μ-loop
-loop-holds c = ?
+loop-holds c = refl
 
--- src/stated.rt:46:15
 read-record-requires : tie.Need-read-record-requires Inv-loop μ-loop
-read-record-requires c κs = ?
+read-record-requires c κs = search needs
 
--- src/stated.rt:47:26
 enum-known-x : tie.Need-enum-known-x Inv-loop μ-loop
-enum-known-x c = ?
+enum-known-x c = search needs
 
--- src/stated.rt:47:44
 label-of-requires : tie.Need-label-of-requires Inv-loop μ-loop
-label-of-requires c κs = ?
+label-of-requires c κs = search needs
 
--- src/stated.rt:49:21
 enum-told : tie.Need-enum-told Inv-loop μ-loop
-enum-told c = ?
+enum-told c = search needs
 
--- src/stated.rt:50:21
 sub-left : tie.Need-sub-left Inv-loop μ-loop
-sub-left c = ?
+sub-left c = omega (arith, c .before .before .before .before .before .before .before .loop-test .taken)
 
--- src/stated.rt:45:5
 loop-less : tie.Need-loop-less Inv-loop μ-loop
-loop-less c = ?
+loop-less c = omega (arith, c .before .before .before .before .before .before .before .loop-test .taken)
 
--- src/stated.rt:45:5
 loop-again : tie.Need-loop-again Inv-loop μ-loop
-loop-again c = ?
+loop-again c =
+    sym (label-later _ _ _ _ _ (c .before .before .before .before .before .before .before .loop-test .taken) _ _ (sym (c .before .before .before .before .before .before .read-record .ensures) ∙ c .before .before .before .before .x .given .1) (sym (c .before .before .label-of .ensures) ∙ ap labelIn (c .enum-told .given .1))) ∙ c .before .before .before .before .before .before .before .before .loop .inv
 
--- src/stated.rt:52:33
 enum-known-a : tie.Need-enum-known-a Inv-loop μ-loop
-enum-known-a c = ?
+enum-known-a c = search needs
 
--- src/stated.rt:52:39
 returns : tie.Need-returns Inv-loop μ-loop
-returns c = ?
+returns c =
+    sym (label-found _ _ _ _ _ (c .before .before .before .before .before .before .before .before .loop-test .taken) _ _ _ (sym (c .before .before .before .before .before .before .before .read-record .ensures) ∙ c .before .before .before .before .before .x .given .1) (sym (c .before .before .before .label-of .ensures) ∙ ap labelIn (c .before .a .given .1))) ∙ c .before .before .before .before .before .before .before .before .before .loop .inv
 
--- src/stated.rt:54:37
 enum-told-2 : tie.Need-enum-told-2 Inv-loop μ-loop
-enum-told-2 c = ?
+enum-told-2 c = search needs
 
--- src/stated.rt:54:37
 returns-2 : tie.Need-returns-2 Inv-loop μ-loop
-returns-2 c = ?
+returns-2 c =
+    sym (labels-refused _ _ _ _ _ (c .before .before .before .loop-test .taken) _ (sym (c .before .before .read-record .ensures) ∙ c .enum-told2 .given .1)) ∙ c .before .before .before .before .loop .inv
 
--- src/stated.rt:40:1
 returns-3 : tie.Need-returns-3 Inv-loop μ-loop
-returns-3 c = ?
+returns-3 c = sym (labels-over _ _ _ _ _ (c .loop-test .left)) ∙ c .before .loop .inv
 
 pub first-label-spec : {M : Type 1} → statement M
 first-label-spec =

@@ -1,25 +1,23 @@
+-- `engine::stated::label_of` meets its contract.
 use borrow.Author.Needs.{needs}
+use borrow.Author.Tests.{not-true, not-false}
+use mathlib.Core.Path.{_≡_, refl, sym, _∙_}
+use Rattle.fields.proofs.Choice.{is-same, not-same}
+use Rattle.engine.proofs.Labelled.{without-label, other-subject, with-label}
 use Rattle.engine.proofs.stated.label_of.Statement.{statement}
 use Rattle.engine.proofs.stated.label_of.Tie as tie
-use Rattle.engine.proofs.stated.label_of.Reads as reads
-use Rattle.engine.proofs.stated.label_of.Lts as lts
-use Rattle.fields.proofs.has_bit.Reads as has-bit-reads
 
--- src/stated.rt:29:9
 has-bit-requires : tie.Need-has-bit-requires
 has-bit-requires c κs = search needs
 
--- src/stated.rt:30:9
 returns : tie.Need-returns
-returns c = ?
+returns c = sym (without-label _ _ (sym (c .before .has-bit .ensures) ∙ not-true _ (c .if1 .taken)))
 
--- src/stated.rt:33:9
 returns-2 : tie.Need-returns-2
-returns-2 c = ?
+returns-2 c = sym (other-subject _ _ (sym (c .before .before .before .before .has-bit .ensures) ∙ not-false _ (c .before .before .before .if1 .left)) (not-same _ _ (λ e. c .if2 .taken (sym e))))
 
--- src/stated.rt:24:1
 returns-3 : tie.Need-returns-3
-returns-3 c = ?
+returns-3 c = sym (with-label _ _ (sym (c .before .before .before .before .before .has-bit .ensures) ∙ not-false _ (c .before .before .before .before .if1 .left)) (is-same _ _ (sym (c .before .if2 .left))))
 
 pub label-of-spec : {M : Type 1} → statement M
 label-of-spec = tie.close (tie.spec has-bit-requires returns returns-2 returns-3)

@@ -59,8 +59,8 @@ loop-again c =
     let g = c .before .before .before .before .before .before .before .before .before .before .before .before .before .before .loop .inv .0 in
     let r = c .before .before .before .reply .ensures in
     let next =
-        going-next g (c .before .before .before .before .before .before .before .before .before .before .before .before .before .loop-test .taken) (sym (c .before .before .before .before .before .before .before .before .before .before .before .before .read-question .ensures) ∙ c .before .before .before .before .before .before .before .before .before .before .q .given .1) (r .0) (c .number .ensures)
-        (r .1 .0) (r .1 .1) in
+    going-next g (c .before .before .before .before .before .before .before .before .before .before .before .before .before .loop-test .taken) (sym (c .before .before .before .before .before .before .before .before .before .before .before .before .read-question .ensures) ∙ c .before .before .before .before .before .before .before .before .before .before .q .given .1) (r .0) (c .number .ensures)
+    (r .1 .0) (r .1 .1) in
     (next, omega (arith, next .answers .room, g .answers .room, c .before .before .before .before .before .before .before .before .before .before .before .before .before .loop-test .taken, c .before .before .before .before .before .before .before .before .before .before .before .before .before .before .loop .inv .1))
 
 enum-told : tie.Need-enum-told Inv-loop μ-loop
