@@ -17,15 +17,15 @@ enum { ENGINE_ALWAYS = 0, ENGINE_NEVER = 1, ENGINE_OPEN = 2 };
 
 // Why a call is refused: for a fault of the sheet by 1 to 7, else for a short buffer by 8 or 9.
 enum {
-    ENGINE_SHEET_ENDS = 1,
+    ENGINE_CUT = 1,
     ENGINE_HEADER_MAP = 2,
     ENGINE_VARIABLE_COUNT = 3,
-    ENGINE_ITEM_COUNT = 4,
+    ENGINE_COUNT = 4,
     ENGINE_ITEM_MAP = 5,
-    ENGINE_VARIABLE = 6,
+    ENGINE_VARIABLE_RANGE = 6,
     ENGINE_TRAILING = 7,
-    ENGINE_TABLE_SHORT = 8,
-    ENGINE_REPLIES_SHORT = 9
+    ENGINE_SHORT_TABLE = 8,
+    ENGINE_SHORT_REPLIES = 9
 };
 
 // Bytes of the longest sheet that can be accepted.

@@ -118,9 +118,9 @@ static struct outcome expected_outcome(const struct sheet *sheet)
     if (sheet->outcome.kind == ENGINE_REFUSED)
         return sheet->outcome;
     if (parts[FACTS].length < size || parts[WORK].length < size)
-        return (struct outcome) { ENGINE_REFUSED, ENGINE_TABLE_SHORT, 0 };
+        return (struct outcome) { ENGINE_REFUSED, ENGINE_SHORT_TABLE, 0 };
     if (parts[REPLIES].length < sheet->questions)
-        return (struct outcome) { ENGINE_REFUSED, ENGINE_REPLIES_SHORT, 0 };
+        return (struct outcome) { ENGINE_REFUSED, ENGINE_SHORT_REPLIES, 0 };
     return sheet->outcome;
 }
 

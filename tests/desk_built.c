@@ -202,7 +202,7 @@ static void longest(check_function *check)
     put(0);
     finish_refused(check, "longest and a byte", ENGINE_TRAILING, ENGINE_LONGEST_SHEET);
     length -= 2;
-    finish_refused(check, "longest but a byte", ENGINE_SHEET_ENDS, ENGINE_LONGEST_SHEET - 1);
+    finish_refused(check, "longest but a byte", ENGINE_CUT, ENGINE_LONGEST_SHEET - 1);
 }
 
 // Each variable is its own child at features 0 to 7 and has a label of its own.

@@ -183,28 +183,28 @@ static const struct sheet all_fields = { "all fields",
 
 // Refused sheets: the fault that comes first from the left is told.
 static const struct sheet faulty[] = {
-    { "empty", NONE, REFUSED(ENGINE_SHEET_ENDS, 0), 0, NONE, NONE },
-    FAULT("header map alone", ENGINE_SHEET_ENDS, 1, 1),
+    { "empty", NONE, REFUSED(ENGINE_CUT, 0), 0, NONE, NONE },
+    FAULT("header map alone", ENGINE_CUT, 1, 1),
     FAULT("map 0 alone", ENGINE_HEADER_MAP, 0, 0),
     FAULT("map 9, no variables", ENGINE_HEADER_MAP, 0, 9, 0),
     FAULT("no variables, a byte more", ENGINE_VARIABLE_COUNT, 1, 1, 0, 0),
     FAULT("129 variables", ENGINE_VARIABLE_COUNT, 1, 1, 129),
     FAULT("no variables, 1025 of both", ENGINE_VARIABLE_COUNT, 1, 7, 0, 4, 1, 4, 1),
-    FAULT("1024 records, none there", ENGINE_SHEET_ENDS, 4, 3, 1, 4, 0),
-    FAULT("1024 questions, none there", ENGINE_SHEET_ENDS, 4, 5, 1, 4, 0),
-    FAULT("1025 records", ENGINE_ITEM_COUNT, 2, 3, 1, 4, 1),
-    FAULT("1025 questions", ENGINE_ITEM_COUNT, 2, 5, 1, 4, 1),
-    FAULT("1024 records, 1025 questions", ENGINE_ITEM_COUNT, 4, 7, 1, 4, 0, 4, 1),
-    FAULT("1025 of both", ENGINE_ITEM_COUNT, 2, 7, 1, 4, 1, 4, 1),
-    FAULT("half a record count", ENGINE_SHEET_ENDS, 3, 3, 1, 255),
-    FAULT("half a question count", ENGINE_SHEET_ENDS, 5, 7, 1, 0, 0, 255),
+    FAULT("1024 records, none there", ENGINE_CUT, 4, 3, 1, 4, 0),
+    FAULT("1024 questions, none there", ENGINE_CUT, 4, 5, 1, 4, 0),
+    FAULT("1025 records", ENGINE_COUNT, 2, 3, 1, 4, 1),
+    FAULT("1025 questions", ENGINE_COUNT, 2, 5, 1, 4, 1),
+    FAULT("1024 records, 1025 questions", ENGINE_COUNT, 4, 7, 1, 4, 0, 4, 1),
+    FAULT("1025 of both", ENGINE_COUNT, 2, 7, 1, 4, 1, 4, 1),
+    FAULT("half a record count", ENGINE_CUT, 3, 3, 1, 255),
+    FAULT("half a question count", ENGINE_CUT, 5, 7, 1, 0, 0, 255),
     FAULT("record map 16, no such subject", ENGINE_ITEM_MAP, 4, 3, 1, 0, 1, 16, 1),
-    FAULT("no such subject, no target", ENGINE_VARIABLE, 5, 3, 1, 0, 1, 15, 1),
-    FAULT("half a feature", ENGINE_SHEET_ENDS, 9, 3, 1, 0, 1, 15, 0, 0, 0, 0),
-    FAULT("no such child, no label", ENGINE_VARIABLE, 10, 3, 1, 0, 1, 15, 0, 0, 0, 0, 0, 1),
-    FAULT("half a label", ENGINE_SHEET_ENDS, 12, 3, 1, 0, 1, 15, 0, 0, 0, 0, 0, 0, 0),
+    FAULT("no such subject, no target", ENGINE_VARIABLE_RANGE, 5, 3, 1, 0, 1, 15, 1),
+    FAULT("half a feature", ENGINE_CUT, 9, 3, 1, 0, 1, 15, 0, 0, 0, 0),
+    FAULT("no such child, no label", ENGINE_VARIABLE_RANGE, 10, 3, 1, 0, 1, 15, 0, 0, 0, 0, 0, 1),
+    FAULT("half a label", ENGINE_CUT, 12, 3, 1, 0, 1, 15, 0, 0, 0, 0, 0, 0, 0),
     FAULT("question map 3, no such subject", ENGINE_ITEM_MAP, 4, 5, 1, 0, 1, 3, 1),
-    FAULT("no such subject, no such child", ENGINE_VARIABLE, 5, 5, 1, 0, 1, 4, 1, 0, 0, 1),
+    FAULT("no such subject, no such child", ENGINE_VARIABLE_RANGE, 5, 5, 1, 0, 1, 4, 1, 0, 0, 1),
     FAULT("a byte behind the header", ENGINE_TRAILING, 2, 1, 1, 0),
     FAULT("two bytes behind the header", ENGINE_TRAILING, 2, 1, 128, 1, 128),
     FAULT("a byte behind no records", ENGINE_TRAILING, 4, 3, 1, 0, 0, 0),
@@ -224,26 +224,26 @@ struct change {
 static const struct change changes[] = {
     { ENGINE_HEADER_MAP, 0, BYTES(0, 2, 4, 6, 15, 23, 39, 71, 135, 255) },
     { ENGINE_VARIABLE_COUNT, 1, BYTES(0, 129, 130, 255) },
-    { ENGINE_ITEM_COUNT, 2, BYTES(4, 5, 128, 255) },
-    { ENGINE_ITEM_COUNT, 4, BYTES(4, 5, 128, 255) },
+    { ENGINE_COUNT, 2, BYTES(4, 5, 128, 255) },
+    { ENGINE_COUNT, 4, BYTES(4, 5, 128, 255) },
     { ENGINE_ITEM_MAP, 6, BYTES(0, 16, 31, 47, 79, 143, 255) },
     { ENGINE_ITEM_MAP, 15, BYTES(0, 16, 24, 40, 72, 136) },
     { ENGINE_ITEM_MAP, 19, BYTES(0, 3, 5, 9, 16, 17, 33, 65, 129) },
     { ENGINE_ITEM_MAP, 22, BYTES(0, 3, 6, 10, 18, 34, 66, 130) },
     { ENGINE_ITEM_MAP, 25, BYTES(0, 5, 6, 12, 20, 36, 68, 132) },
     { ENGINE_ITEM_MAP, 30, BYTES(0, 9, 10, 12, 15, 24, 40, 72, 136) },
-    { ENGINE_VARIABLE, 7, BYTES(3, 4, 255) },
-    { ENGINE_VARIABLE, 8, BYTES(3, 255) },
-    { ENGINE_VARIABLE, 9, BYTES(3, 255) },
-    { ENGINE_VARIABLE, 12, BYTES(3, 255) },
-    { ENGINE_VARIABLE, 16, BYTES(3, 255) },
-    { ENGINE_VARIABLE, 20, BYTES(3, 255) },
-    { ENGINE_VARIABLE, 21, BYTES(3, 255) },
-    { ENGINE_VARIABLE, 23, BYTES(3, 255) },
-    { ENGINE_VARIABLE, 24, BYTES(3, 255) },
-    { ENGINE_VARIABLE, 26, BYTES(3, 255) },
-    { ENGINE_VARIABLE, 29, BYTES(3, 255) },
-    { ENGINE_VARIABLE, 31, BYTES(3, 255) },
+    { ENGINE_VARIABLE_RANGE, 7, BYTES(3, 4, 255) },
+    { ENGINE_VARIABLE_RANGE, 8, BYTES(3, 255) },
+    { ENGINE_VARIABLE_RANGE, 9, BYTES(3, 255) },
+    { ENGINE_VARIABLE_RANGE, 12, BYTES(3, 255) },
+    { ENGINE_VARIABLE_RANGE, 16, BYTES(3, 255) },
+    { ENGINE_VARIABLE_RANGE, 20, BYTES(3, 255) },
+    { ENGINE_VARIABLE_RANGE, 21, BYTES(3, 255) },
+    { ENGINE_VARIABLE_RANGE, 23, BYTES(3, 255) },
+    { ENGINE_VARIABLE_RANGE, 24, BYTES(3, 255) },
+    { ENGINE_VARIABLE_RANGE, 26, BYTES(3, 255) },
+    { ENGINE_VARIABLE_RANGE, 29, BYTES(3, 255) },
+    { ENGINE_VARIABLE_RANGE, 31, BYTES(3, 255) },
 };
 
 static void check_list(check_function *check, const struct sheet *sheets, size_t count)
@@ -263,7 +263,7 @@ static void check_cuts(check_function *check, const char *name, const uint8_t *a
 {
     char cut_name[128];
     for (size_t length = 0; length < whole; length++) {
-        struct sheet cut = refused_sheet(cut_name, at, length, ENGINE_SHEET_ENDS, length);
+        struct sheet cut = refused_sheet(cut_name, at, length, ENGINE_CUT, length);
         snprintf(cut_name, sizeof cut_name, "%s, cut off at %zu", name, length);
         check(&cut);
     }
@@ -275,7 +275,7 @@ static void check_change(check_function *check, const struct change *change, uin
 {
     uint8_t bytes[64];
     char name[64];
-    size_t judged = change->at + (change->number == ENGINE_ITEM_COUNT ? 2 : 1);
+    size_t judged = change->at + (change->number == ENGINE_COUNT ? 2 : 1);
     size_t lengths[] = { all_fields.bytes.length, judged };
     memcpy(bytes, all_fields.bytes.at, all_fields.bytes.length);
     bytes[change->at] = value;

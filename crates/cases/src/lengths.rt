@@ -1,17 +1,19 @@
 // Every truncation of a sheet, and the longest sheet.
+use crate::checks::show_check;
 use crate::outcome::show;
 
-// The sheet that the first k bytes are.
-fn show_first(name: &[u8], s: &[u8], k: usize) {
-    if k <= s.len() {
-        show(name, &s[..k]);
+// The first k bytes, or all where there are fewer.
+fn first<'a>(s: &'a [u8], k: usize) -> &'a [u8] {
+    if s.len() < k {
+        return s;
     }
+    &s[..k]
 }
 
 pub fn show_prefixes(name: &[u8], s: &[u8]) {
     let mut k = 0;
     while k <= s.len() {
-        show_first(name, s, k);
+        show(name, first(s, k));
         k += 1;
     }
 }
@@ -34,7 +36,8 @@ fn put_every(s: &mut [u8], start: usize, step: usize, value: u8) {
     }
 }
 
-// 1,024 records with all fields and 1,024 questions i[f]j: the longest sheet, one byte less and one more.
+// 1,024 records with all fields and 1,024 questions i[f]j: the longest sheet, one byte less and one more; the first and the
+// last are checked too.
 pub fn longest(name: &[u8]) {
     let mut s = [0u8; 14343];
     s[0] = 7;
@@ -43,7 +46,9 @@ pub fn longest(name: &[u8]) {
     s[4] = 4;
     put_every(&mut s, 6, 9, 15);
     put_every(&mut s, 9222, 5, 4);
-    show_first(name, &s, 14342);
-    show_first(name, &s, 14341);
-    show_first(name, &s, 14343);
+    show(name, first(&s, 14342));
+    show(name, first(&s, 14341));
+    show(name, &s);
+    show_check(name, first(&s, 14342));
+    show_check(name, &s);
 }

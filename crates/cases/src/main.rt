@@ -1,5 +1,6 @@
 // Runs the cases of the text on standard input, one to a line: `word name: byte byte ..`. The word's first letter
 // says what is shown of the sheet that the bytes are, behind the line's word and name. Any other line is skipped.
+mod checks;
 mod lengths;
 mod outcome;
 mod text;
@@ -26,6 +27,8 @@ fn run(line: &[u8]) {
         b'r' => show_parts(name, bytes),
         b'c' => lengths::show_prefixes(name, bytes),
         b'l' => lengths::longest(name),
+        b'o' => checks::show_check(name, bytes),
+        b'b' => checks::show_short(name, bytes),
         _ => (),
     }
 }

@@ -4,7 +4,7 @@ use sheet::HeaderRead;
 use sheet::Refusal;
 use sheet::SheetRead;
 
-fn number(n: usize) {
+pub fn number(n: usize) {
     io::write_all(1, b" ");
     io::print_decimal(1, n as u64);
 }
@@ -13,7 +13,7 @@ fn byte(b: u8) {
     number(b as usize);
 }
 
-fn line_end() {
+pub fn line_end() {
     io::write_all(1, b"\n");
 }
 

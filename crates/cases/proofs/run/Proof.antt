@@ -1,8 +1,8 @@
 -- The parts lie inside the line and the buffer.
-use mathlib.Core.Path.{sym}
-use lib.Seq.{length-take-le}
-use native.Mathlib.Omega.{arith}
 use borrow.Author.Needs.{needs}
+use lib.Seq.{length-take-le}
+use mathlib.Core.Path.{sym}
+use native.Mathlib.Omega.{arith}
 use Rattle.cases.proofs.run.Statement.{statement}
 use Rattle.cases.proofs.run.Tie as tie
 
@@ -57,6 +57,12 @@ show-prefixes-requires c κs = search needs
 longest-requires : tie.Need-longest-requires
 longest-requires c κs = search needs
 
+show-check-requires : tie.Need-show-check-requires
+show-check-requires c κs = search needs
+
+show-short-requires : tie.Need-show-short-requires
+show-short-requires c κs = search needs
+
 returns-2 : tie.Need-returns-2
 returns-2 c = search needs
 
@@ -74,6 +80,12 @@ returns-6 c = search needs
 
 returns-7 : tie.Need-returns-7
 returns-7 c = search needs
+
+returns-8 : tie.Need-returns-8
+returns-8 c = search needs
+
+returns-9 : tie.Need-returns-9
+returns-9 c = search needs
 
 pub run-spec : {M : Type 1} → statement M
 run-spec =
@@ -96,9 +108,13 @@ run-spec =
     show-parts-requires
     show-prefixes-requires
     longest-requires
+    show-check-requires
+    show-short-requires
     returns-2
     returns-3
     returns-4
     returns-5
     returns-6
-    returns-7)
+    returns-7
+    returns-8
+    returns-9)

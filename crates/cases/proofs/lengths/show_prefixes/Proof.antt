@@ -14,8 +14,11 @@ abbrev μ-loop : tie.MeasureT-loop
 loop-holds : tie.Need-loop-holds Inv-loop μ-loop
 loop-holds c = search needs
 
-show-first-requires : tie.Need-show-first-requires Inv-loop μ-loop
-show-first-requires c κs = search needs
+first-requires : tie.Need-first-requires Inv-loop μ-loop
+first-requires c κs = search needs
+
+show-requires : tie.Need-show-requires Inv-loop μ-loop
+show-requires c κs = search needs
 
 add-k : tie.Need-add-k Inv-loop μ-loop
 add-k c = search needs
@@ -32,4 +35,13 @@ returns c = search needs
 pub show-prefixes-spec : {M : Type 1} → statement M
 show-prefixes-spec =
     tie.close
-    (tie.spec Inv-loop μ-loop loop-holds show-first-requires add-k loop-less loop-again returns)
+    (tie.spec
+    Inv-loop
+    μ-loop
+    loop-holds
+    first-requires
+    show-requires
+    add-k
+    loop-less
+    loop-again
+    returns)
