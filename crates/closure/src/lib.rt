@@ -3,4 +3,5 @@ mod making;
 mod trials;
 
 pub use making::make;
+pub use trials::is_clash;
 pub use trials::trial;

@@ -311,7 +311,7 @@ fn try_where_labels_differ(
 }
 
 // Whether a pair clashes.
-fn is_clash(clash: Clash) -> bool
+pub fn is_clash(clash: Clash) -> bool
     ensures { λ r. ⌜ r ≡ isClash clash ⌝ }
 {
     match clash {

@@ -1,6 +1,7 @@
 -- What is known where bytes and buffers are accepted, and where they are refused.
 use Prim.Native.Nat.{ℕ, _≤_}
 use lib.ListN.{length}
+use mathlib.Core.Bool.{_||_}
 use mathlib.Core.List.{List}
 use mathlib.Core.Path.{_≡_, refl, sym, ap, _∙_}
 use native.Mathlib.Omega.{arith}
@@ -8,7 +9,7 @@ use Rattle.fields.specs.declared.numbers.Cursor.{Cursor}
 use Rattle.fields.specs.declared.refusals.Refusal.{Refusal}
 use Rattle.fields.specs.Refusals.{shortTable, tableRefusal, shortReplies, repliesRefusal}
 use Rattle.fields.specs.Tests.{less, pick}
-use Rattle.fields.proofs.Choice.{less-false}
+use Rattle.fields.proofs.Choice.{less-false, or-left, or-right}
 use Rattle.fields.proofs.Chains.{Of, told, known}
 use Rattle.headers.specs.declared.headers.Header.{Header}
 use Rattle.headers.specs.Headers.{tableSize}
@@ -35,15 +36,14 @@ module _ (b : List ℕ) (facts work replies : ℕ) where
       → Judges b facts work replies (lentTo h asked facts work replies)
   unfolding lentTo shortTable shortReplies pick
   buffers-judged h asked e =
-      decided (less facts (tableSize h)) (λ p. rw p (omega arith)) λ p.
-      decided (less work (tableSize h)) (λ q. rw (p, q) (omega arith)) λ q.
-      decided (less replies (h .questions)) (λ s. rw (p, q, s) (omega arith)) λ s.
-      rw (p, q, s)
+      decided (less facts (tableSize h) || less work (tableSize h)) (λ p. rw p (omega arith)) λ p.
+      decided (less replies (h .questions)) (λ q. rw (p, q) (omega arith)) λ q.
+      rw (p, q)
       record {
         accepted = e;
-        facts-fit = less-false _ _ p;
-        work-fits = less-false _ _ q;
-        replies-fit = less-false _ _ s;
+        facts-fit = less-false _ _ (or-left (less facts (tableSize h)) _ p);
+        work-fits = less-false _ _ (or-right (less facts (tableSize h)) _ p);
+        replies-fit = less-false _ _ q;
       }
 
   all-judged : (r : SheetRead) → readSheet b ≡ r → Judges b facts work replies (judged b facts work replies)

@@ -30,7 +30,7 @@ use Rattle.trees.specs.Demand.{Met, Unmet, Answers, Demand-3}
 use Rattle.trees.proofs.Demands.{demand-2, demand-3, demand-3-asked}
 use Rattle.engine.specs.declared.outcomes.Outcome.{Outcome}
 use Rattle.engine.specs.Outcomes.{kindOf, kindIn, firstIn, secondIn, packed}
-use Rattle.engine.specs.Checks.{judged, outcomeOf, ofClash, Checked, Returned}
+use Rattle.engine.specs.Checks.{judged, outcomeOf, ofClash, whereConsistent, Checked, Returned}
 use Rattle.engine.specs.Promise.{IsAccepted, IsRefused, questionIn, ByteMeans, Means}
 use Rattle.engine.proofs.Judging.{accepted-fits}
 use Rattle.engine.proofs.Steps.{same-variables}
@@ -169,7 +169,7 @@ module _ {b facts₀ work₀ replies₀ facts′ work′ replies′ : List ℕ} 
 
     consistent-means : clashOf (sheetOf b .stated) (sheetOf b .n) ≡ Clash.Nowhere
         → Means b facts₀ work₀ replies₀ facts′ replies′ r
-    unfolding outcomeOf clashes repliesOf
+    unfolding outcomeOf clashes repliesOf whereConsistent
     consistent-means is =
         let kind : kindIn r ≡ 0 = rw (returned .number, e, is) (kind-is _) in
         let fails-not : fails (sheetOf b) ≡ false = rw is refl in

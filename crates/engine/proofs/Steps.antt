@@ -1,12 +1,12 @@
 -- The steps of a check of an accepted sheet: what each next call requires, and what all of them leave.
 use Prim.Native.Nat.{ℕ, _*_, _<_}
 use lib.ListN.{length, replicate}
+use mathlib.Core.Bool.{true, false}
 use mathlib.Core.List.{List, map}
 use mathlib.Core.Path.{_≡_, refl, sym, ap, subst, _∙_}
 use native.Mathlib.Nat.{mul-le-mul}
 use native.Mathlib.Omega.{arith}
 use Rattle.fields.specs.declared.numbers.Cursor.{Cursor}
-use Rattle.fields.specs.declared.numbers.Variable.{Variable}
 use Rattle.headers.specs.declared.headers.Header.{Header}
 use Rattle.headers.specs.Headers.{tableSize}
 use Rattle.items.specs.Statements.{AllName}
@@ -17,9 +17,10 @@ use Rattle.rules.specs.declared.clashes.Clash.{Clash}
 use Rattle.rules.specs.Facts.{Kind, ordered, compatible}
 use Rattle.rules.specs.Tables.{facts, countFacts}
 use Rattle.rules.specs.Derived.{derived}
-use Rattle.rules.specs.Clashes.{clashOf}
+use Rattle.rules.specs.Clashes.{clashOf, isClash}
 use Rattle.rules.specs.Replies.{repliesOf, replyNumber}
 use Rattle.rules.proofs.Counts.{count-bound}
+use Rattle.rules.proofs.Logic.{contrary}
 use Rattle.table.specs.Queue.{queueRoom}
 use Rattle.answers.specs.Cells.{Lent}
 use Rattle.answers.specs.Clashes.{ClashTold}
@@ -30,11 +31,27 @@ use Rattle.statements.specs.Lists.{InLists}
 use Rattle.replies.specs.Replying.{Held, Asked}
 use Rattle.engine.specs.declared.outcomes.Outcome.{Outcome}
 use Rattle.engine.specs.Checks.{ofClash, whereConsistent}
-use Rattle.engine.specs.Steps.{Accepting, Answering, Filled}
+use Rattle.engine.specs.Steps.{tableOutcome, Accepting, Answering, Filled}
 
 -- a count of facts fits in two bytes
 pub few-facts : {n : ℕ} {t : List ℕ} → Lent n t → (kind : Kind) {r : ℕ} → r ≡ countFacts n (facts n t) kind → r < 65536
 few-facts {n} {t} lent kind e = omega (arith, e, count-bound n (facts n t) kind, mul-le-mul (lent .few) (lent .few))
+
+-- a clash or none, by its test
+pub no-clash : (clash : Clash) → isClash clash ≡ false → clash ≡ Clash.Nowhere
+no-clash Clash.Nowhere e = refl
+no-clash (Clash.Between i j) e = absurd (contrary refl e)
+
+pub left-on-clash : (clash : Clash) (written buffer : List ℕ) → isClash clash ≡ true
+    → buffer ≡ whereConsistent clash written buffer
+unfolding whereConsistent
+left-on-clash Clash.Nowhere written buffer e = absurd (contrary e refl)
+left-on-clash (Clash.Between i j) written buffer e = refl
+
+pub written-else : (clash : Clash) (written buffer after : List ℕ) → isClash clash ≡ false → after ≡ written
+    → after ≡ whereConsistent clash written buffer
+unfolding whereConsistent
+written-else clash written buffer after e is = rw (no-clash clash e) is
 
 -- an accepted sheet has the variables of its header, and names no other
 module _ (b : List ℕ) {h : Header} {asked : Cursor} (accepted : readSheet b ≡ SheetRead.Accepted h asked) where
@@ -88,49 +105,39 @@ module _ {b : List ℕ} {h : Header} {asked : Cursor} {facts₀ work replies : L
         (clash-is (l .lawful-selections) (made .grouping) (made .from) sheet-names (l .pairs-stand)
         (l .selections-stand) (l .labelled) clash told)
 
-    pub lists-answering : {queue : List ℕ} → length queue ≡ queueRoom → length t ≡ length work
-        → ClashTold (h .variables) t counts labels Clash.Nowhere
-        → Answering b h asked t work subjects features children starts ends group-features group-children counts labels
-        queue replies
-    lists-answering {queue} room same-size nowhere =
+    pub lists-answering : {queue : List ℕ} {clash : Clash} → length queue ≡ queueRoom → length t ≡ length work
+        → ClashTold (h .variables) t counts labels clash
+        → Answering clash b h asked t work subjects features children starts ends group-features group-children counts
+        labels queue replies
+    lists-answering {queue} room same-size told =
         record {
           questions = a .questions;
           same-size = same-size;
           selections = l .lawful-selections;
           trying = may-try (l .lawful-selections) (made .grouping) (made .from) queue room;
-          nowhere = nowhere;
-          single =
+          clash-told = told;
+          single = λ e.
               one-label-each (l .lawful-selections) (made .grouping) (made .from) sheet-names (l .pairs-stand)
-              (l .selections-stand) (l .labelled) nowhere;
+              (l .selections-stand) (l .labelled) (subst (ClashTold _ _ _ _) e told);
         }
 
-    -- on a clash
-    pub filled-clash : (i j : Variable) {clash : Clash} → clash ≡ Clash.Between i j
-        → ClashTold (h .variables) t counts labels clash
-        → Filled (sheetOf b) work replies t work replies (Outcome.Clash i j)
-    filled-clash i j e told =
-        let is = sym (clash-told _ told) ∙ e in
-        record {
-          outcome = rw is refl;
-          facts-are = table-is;
-          work-is = rw is refl;
-          replies-are = rw is refl;
-        }
+    outcome-is : (clash : Clash) → tableOutcome (h .variables) t clash ≡ ofClash (sheetOf b) clash
+    outcome-is Clash.Nowhere =
+        let n-is = same-variables b (a .questions .accepted) in rw (n-is, ← (rw n-is at table-is)) refl
+    outcome-is (Clash.Between i j) = refl
 
-    -- and where nothing clashes
-    pub filled-consistent : {work′ replies′ : List ℕ} {clash : Clash} {r : Outcome} → clash ≡ Clash.Nowhere
-        → ClashTold (h .variables) t counts labels clash
-        → r ≡ Outcome.Consistent (countFacts (h .variables) (facts (h .variables) t) ordered)
-        (countFacts (h .variables) (facts (h .variables) t) compatible)
-        → work′ ≡ replicate (length work) 0 → replies′ ≡ map replyNumber (repliesOf (sheetOf b))
+    -- so all is as it has to be
+    pub lists-filled : {work′ replies′ : List ℕ} {clash : Clash} {r : Outcome}
+        → ClashTold (h .variables) t counts labels clash → r ≡ tableOutcome (h .variables) t clash
+        → work′ ≡ whereConsistent clash (replicate (length work) 0) work
+        → replies′ ≡ whereConsistent clash (map replyNumber (repliesOf (sheetOf b))) replies
         → Filled (sheetOf b) work replies t work′ replies′ r
     unfolding tableSize
-    filled-consistent e told counts cleared replied =
-        let is = sym (clash-told _ told) ∙ e in
-        let n-is = same-variables b (a .questions .accepted) in
+    lists-filled {clash = clash} told outcome cleared replied =
+        let is = clash-told clash told in
         record {
-          outcome = rw is (rw (n-is, ← (rw n-is at table-is)) counts);
+          outcome = outcome ∙ outcome-is clash ∙ ap (ofClash (sheetOf b)) is;
           facts-are = table-is;
-          work-is = rw (is, n-is, ← a .work-size) cleared;
-          replies-are = rw is replied;
+          work-is = rw (← is, same-variables b (a .questions .accepted), ← a .work-size) cleared;
+          replies-are = rw (← is) replied;
         }

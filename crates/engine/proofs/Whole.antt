@@ -41,6 +41,7 @@ part-over first buffer part size e is = rw (is, ← e) refl
 part-written : (clash : Clash) (first buffer part : List ℕ) (size : ℕ) → length first ≡ size
     → part ≡ whereConsistent clash first (take size buffer)
     → part ++ drop size buffer ≡ whereConsistent clash (over first buffer) buffer
+unfolding whereConsistent
 part-written Clash.Nowhere first buffer part size e is = part-over first buffer part size e is
 part-written (Clash.Between i j) first buffer part size e is = rw is (take-append-drop size buffer)
 

@@ -1,6 +1,7 @@
 -- What a check of any bytes gives, and what it leaves in the lent buffers.
 use Prim.Native.Nat.{ℕ, _*_}
 use lib.ListN.{length, drop, replicate}
+use mathlib.Core.Bool.{_||_}
 use mathlib.Core.List.{List, _++_, map}
 use mathlib.Core.Path.{_≡_}
 use Rattle.fields.specs.declared.numbers.Cursor.{Cursor}
@@ -23,10 +24,9 @@ use Rattle.engine.specs.Outcomes.{packed}
 -- rows 8 and 9, behind the whole sheet: either table too short for it, then the reply buffer
 unfoldable pub lentTo : Header → Cursor → ℕ → ℕ → ℕ → SheetRead
 lentTo h asked facts work replies =
-    pick (shortTable (tableSize h) facts) (SheetRead.Refused tableRefusal)
-    (pick (shortTable (tableSize h) work) (SheetRead.Refused tableRefusal)
+    pick (shortTable (tableSize h) facts || shortTable (tableSize h) work) (SheetRead.Refused tableRefusal)
     (pick (shortReplies (h .questions) replies) (SheetRead.Refused repliesRefusal)
-    (SheetRead.Accepted h asked)))
+    (SheetRead.Accepted h asked))
 
 -- all rows in their order, for bytes and three lent lengths
 unfoldable pub judged : List ℕ → ℕ → ℕ → ℕ → SheetRead
@@ -54,7 +54,7 @@ abbrev pub over : List ℕ → List ℕ → List ℕ
 over first buffer = first ++ drop (length first) buffer
 
 -- written where nothing clashes, else as it was
-abbrev pub whereConsistent : Clash → List ℕ → List ℕ → List ℕ
+unfoldable pub whereConsistent : Clash → List ℕ → List ℕ → List ℕ
 whereConsistent Clash.Nowhere written buffer = written
 whereConsistent (Clash.Between i j) written buffer = buffer
 

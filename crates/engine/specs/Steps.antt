@@ -9,6 +9,8 @@ use Rattle.headers.specs.Headers.{tableSize}
 use Rattle.sheet.specs.declared.whole.SheetRead.{SheetRead}
 use Rattle.sheet.specs.Sheets.{Sheet, readSheet}
 use Rattle.rules.specs.declared.clashes.Clash.{Clash}
+use Rattle.rules.specs.Facts.{ordered, compatible}
+use Rattle.rules.specs.Tables.{facts, countFacts}
 use Rattle.rules.specs.Derived.{derived}
 use Rattle.rules.specs.Clashes.{clashOf}
 use Rattle.rules.specs.Replies.{repliesOf, replyNumber}
@@ -26,15 +28,22 @@ pub record Accepting (s : List ℕ) (h : Header) (asked : Cursor) (facts work re
   pub facts-size : length facts ≡ tableSize h
   pub work-size : length work ≡ tableSize h
 
--- a closed table in which nothing clashes, what it was made by, and room for a copy and the replies
-pub record Answering (s : List ℕ) (h : Header) (asked : Cursor) (closed work subjects features children : List ℕ)
+-- the outcome of a table with the facts of a sheet
+abbrev pub tableOutcome : ℕ → List ℕ → Clash → Outcome
+tableOutcome n t Clash.Nowhere =
+    Outcome.Consistent (countFacts n (facts n t) ordered) (countFacts n (facts n t) compatible)
+tableOutcome n t (Clash.Between i j) = Outcome.Clash i j
+
+-- a closed table and its clash, what it was made by, and room for a copy and the replies
+pub record Answering (clash : Clash) (s : List ℕ) (h : Header) (asked : Cursor)
+    (closed work subjects features children : List ℕ)
     (starts ends group-features group-children counts labels queue replies : List ℕ) : Type 0 where
   pub questions : Asked s h asked replies
   pub same-size : length closed ≡ length work
   pub selections : Selections (h .variables) subjects features children
   pub trying : Trying (h .variables) closed queue starts ends group-features group-children
-  pub nowhere : ClashTold (h .variables) closed counts labels Clash.Nowhere
-  pub single : SingleLabels (h .variables) counts
+  pub clash-told : ClashTold (h .variables) closed counts labels clash
+  pub single : clash ≡ Clash.Nowhere → SingleLabels (h .variables) counts
 
 -- the outcome of a sheet, its table, and where nothing clashes a cleared second table and the replies
 pub record Filled (s : Sheet) (work replies facts′ work′ replies′ : List ℕ) (r : Outcome) : Type 0 where

@@ -5,8 +5,39 @@ use sheet::Header;
 use sheet::Refusal;
 use sheet::SheetRead;
 use sheet::read_sheet;
+ghost use mathlib.Core.Bool.{_||_};
 ghost use mathlib.Core.Path.{_≡_};
+ghost use Rattle.fields.specs.Refusals.{refusal, shortTable};
+ghost use Rattle.fields.specs.Tests.{less};
+ghost use Rattle.sheet.specs.declared.whole.SheetRead.{SheetRead};
 ghost use Rattle.engine.specs.Checks.{lentTo, judged};
+
+// Whether fewer bytes are lent than are needed.
+fn is_short(needed: usize, lent: usize) -> bool
+    ensures { λ r. ⌜ r ≡ less lent needed ⌝ }
+{
+    lent < needed
+}
+
+// Whether either table is too short.
+fn tables_short(size: usize, facts: usize, work: usize) -> bool
+    ensures { λ r. ⌜ r ≡ shortTable size facts || shortTable size work ⌝ }
+{
+    if is_short(size, facts) {
+        return true;
+    }
+    is_short(size, work)
+}
+
+// A refusal of a lent buffer.
+fn refuse(fault: Fault) -> SheetRead
+    ensures { λ r. ⌜ r ≡ SheetRead.Refused (refusal fault 0) ⌝ }
+{
+    SheetRead::Refused(Refusal {
+        fault: fault,
+        at: 0,
+    })
+}
 
 // Rows 8 and 9.
 fn judge_buffers(
@@ -18,24 +49,13 @@ fn judge_buffers(
 ) -> SheetRead
     ensures { λ r. ⌜ r ≡ lentTo header asked facts work replies ⌝ }
 {
-    let size = header.table_size();
-    if facts < size {
-        return SheetRead::Refused(Refusal {
-            fault: Fault::ShortTable,
-            at: 0,
-        });
+    let few_cells = tables_short(header.table_size(), facts, work);
+    let few_replies = is_short(header.questions as usize, replies);
+    if few_cells {
+        return refuse(Fault::ShortTable);
     }
-    if work < size {
-        return SheetRead::Refused(Refusal {
-            fault: Fault::ShortTable,
-            at: 0,
-        });
-    }
-    if replies < header.questions as usize {
-        return SheetRead::Refused(Refusal {
-            fault: Fault::ShortReplies,
-            at: 0,
-        });
+    if few_replies {
+        return refuse(Fault::ShortReplies);
     }
     SheetRead::Accepted(header, asked)
 }

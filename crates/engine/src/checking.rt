@@ -3,6 +3,7 @@ use crate::buffers::judge;
 use crate::outcomes::Outcome;
 use answers::clash_of;
 use answers::count_facts;
+use closure::is_clash;
 use closure::make;
 use labels::spread_of;
 use replies::reply_all;
@@ -23,15 +24,12 @@ ghost use lib.ListN.{length, replicate};
 ghost use mathlib.Core.List.{map};
 ghost use mathlib.Core.Path.{_≡_};
 ghost use Rattle.sheet.specs.Sheets.{longest, sheetOf};
-ghost use Rattle.rules.specs.Facts.{ordered, compatible};
-ghost use Rattle.rules.specs.Tables.{facts, countFacts};
 ghost use Rattle.rules.specs.Replies.{repliesOf, replyNumber};
 ghost use Rattle.answers.specs.Cells.{Lent};
 ghost use Rattle.statements.specs.Lists.{InLists};
 ghost use Rattle.replies.specs.Replying.{Held};
-ghost use Rattle.engine.specs.declared.outcomes.Outcome.{Outcome};
-ghost use Rattle.engine.specs.Checks.{ofRefusal, Checked};
-ghost use Rattle.engine.specs.Steps.{Answering, Accepting, Filled};
+ghost use Rattle.engine.specs.Checks.{ofRefusal, whereConsistent, Checked};
+ghost use Rattle.engine.specs.Steps.{tableOutcome, Answering, Accepting, Filled};
 
 // The outcome of a refusal.
 fn refused(refusal: Refusal) -> Outcome
@@ -42,19 +40,24 @@ fn refused(refusal: Refusal) -> Outcome
     Outcome::Refused(fault, refusal.at as u16)
 }
 
-// The outcome of a table in which nothing clashes: how many facts it has of each kind.
-fn consistent(closed: &[u8], n: usize) -> Outcome
+// The outcome of a closed table: how many facts it has of each kind, or the pair that clashes in it.
+fn outcome_of(clash: Clash, closed: &[u8], n: usize) -> Outcome
     requires { ⌜ Lent n (now closed) ⌝ }
-    ensures { λ r. ⌜ r ≡ Outcome.Consistent (countFacts n (facts n (now (closed .entry))) ordered)
-        (countFacts n (facts n (now (closed .entry))) compatible) ⌝ }
+    ensures { λ r. ⌜ r ≡ tableOutcome n (now (closed .entry)) clash ⌝ }
 {
-    let orderings = count_facts(closed, n, false);
-    let compatibilities = count_facts(closed, n, true);
-    Outcome::Consistent(orderings as u16, compatibilities as u16)
+    match clash {
+        Clash::Between(i, j) => Outcome::Clash(i, j),
+        Clash::Nowhere => {
+            let orderings = count_facts(closed, n, false);
+            let compatibilities = count_facts(closed, n, true);
+            Outcome::Consistent(orderings as u16, compatibilities as u16)
+        }
+    }
 }
 
-// The replies to all questions, tried in the second table, which is cleared then.
+// Where nothing clashes, the replies to all questions, tried in the second table, which is cleared then.
 fn answer(
+    clash: Clash,
     sheet: &[u8],
     header: Header,
     asked: Cursor,
@@ -72,15 +75,20 @@ fn answer(
     queue: &mut [u16; ROOM],
     replies: &mut [u8],
 )
-    requires { ⌜ Answering (now sheet) header asked (now closed) (now work) (now subjects) (now features) (now children)
-        (now starts) (now ends) (now «group_features») (now «group_children») (now counts) (now labels) (now queue)
-        (now replies) ⌝ }
+    requires { ⌜ Answering clash (now sheet) header asked (now closed) (now work) (now subjects) (now features)
+        (now children) (now starts) (now ends) (now «group_features») (now «group_children») (now counts) (now labels)
+        (now queue) (now replies) ⌝ }
     requires { ⌜ Held (header .variables) (now closed) (now subjects) (now features) (now children) (now starts)
         (now ends) (now «group_features») (now «group_children») (now counts) (now labels)
         (sheetOf (now sheet) .stated) ⌝ }
-    ensures { λ r. ⌜ now (work .exit) ≡ replicate (length (now (work .entry))) 0 ⌝ }
-    ensures { λ r. ⌜ now (replies .exit) ≡ map replyNumber (repliesOf (sheetOf (now (sheet .entry)))) ⌝ }
+    ensures { λ r. ⌜ now (work .exit)
+        ≡ whereConsistent clash (replicate (length (now (work .entry))) 0) (now (work .entry)) ⌝ }
+    ensures { λ r. ⌜ now (replies .exit)
+        ≡ whereConsistent clash (map replyNumber (repliesOf (sheetOf (now (sheet .entry))))) (now (replies .entry)) ⌝ }
 {
+    if is_clash(clash) {
+        return;
+    }
     let spread = spread_of(header.variables as usize, counts, labels);
     copy(closed, work);
     reply_all(
@@ -149,30 +157,27 @@ fn check_lists(
         &mut group_children,
         &mut queue,
     );
-    match clash_of(facts, n, counts, labels) {
-        Clash::Between(i, j) => Outcome::Clash(i, j),
-        Clash::Nowhere => {
-            answer(
-                sheet,
-                header,
-                asked,
-                facts,
-                work,
-                subjects,
-                features,
-                children,
-                &starts,
-                &mut ends,
-                &mut group_features,
-                &mut group_children,
-                counts,
-                labels,
-                &mut queue,
-                replies,
-            );
-            consistent(facts, n)
-        }
-    }
+    let clash = clash_of(facts, n, counts, labels);
+    answer(
+        clash,
+        sheet,
+        header,
+        asked,
+        facts,
+        work,
+        subjects,
+        features,
+        children,
+        &starts,
+        &mut ends,
+        &mut group_features,
+        &mut group_children,
+        counts,
+        labels,
+        &mut queue,
+        replies,
+    );
+    outcome_of(clash, facts, n)
 }
 
 // The check of an accepted sheet, on buffers of exactly the size in use.

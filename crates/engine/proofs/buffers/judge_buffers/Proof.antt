@@ -1,8 +1,8 @@
 -- `engine::buffers::judge_buffers` meets its contract: the rows in their order.
 use borrow.Author.Needs.{needs}
-use mathlib.Core.Path.{_≡_, refl, subst}
-use Rattle.fields.specs.Refusals.{shortTable, shortReplies}
-use Rattle.fields.proofs.Choice.{is-less, not-less, chosen, passed}
+use mathlib.Core.Path.{refl, sym, _∙_}
+use Rattle.fields.specs.Refusals.{shortReplies}
+use Rattle.fields.proofs.Choice.{chosen, passed}
 use Rattle.engine.specs.Checks.{lentTo}
 use Rattle.engine.proofs.buffers.judge_buffers.Statement.{statement}
 use Rattle.engine.proofs.buffers.judge_buffers.Tie as tie
@@ -10,33 +10,50 @@ use Rattle.engine.proofs.buffers.judge_buffers.Tie as tie
 table-size-requires : tie.Need-table-size-requires
 table-size-requires c κs = search needs
 
+tables-short-requires : tie.Need-tables-short-requires
+tables-short-requires c κs = search needs
+
+cast-is-short : tie.Need-cast-is-short
+cast-is-short c = search needs
+
+is-short-requires : tie.Need-is-short-requires
+is-short-requires c κs = search needs
+
+refuse-requires : tie.Need-refuse-requires
+refuse-requires c κs = search needs
+
 returns : tie.Need-returns
-unfolding lentTo shortTable shortReplies
-returns c = rw (← c .before .table-size .ensures) (chosen _ _ _ (is-less _ _ (c .if1 .taken)) refl)
+unfolding lentTo shortReplies
+returns c =
+    rw (← c .before .before .before .before .before .table-size .ensures) (chosen _ _ _ (sym (c .before .before .before .before .tables-short .ensures) ∙ c .before .if1 .taken) (c .refuse .ensures))
+
+refuse-requires-2 : tie.Need-refuse-requires-2
+refuse-requires-2 c κs = search needs
 
 returns-2 : tie.Need-returns-2
-unfolding lentTo shortTable shortReplies
+unfolding lentTo shortReplies
 returns-2 c =
-    rw (← c .before .before .table-size .ensures)
-    (passed _ _ _ (not-less _ _ (c .before .if1 .left)) (chosen _ _ _ (is-less _ _ (c .if2 .taken)) refl))
-
-cast-if3 : tie.Need-cast-if3
-cast-if3 c = search needs
+    rw (← c .before .before .before .before .before .before .table-size .ensures)
+    (passed _ _ _ (sym (c .before .before .before .before .before .tables-short .ensures) ∙ c .before .before .if1 .left)
+    (chosen _ _ _ (sym (c .before .before .before .is-short .ensures) ∙ c .before .if2 .taken) (c .refuse2 .ensures)))
 
 returns-3 : tie.Need-returns-3
-unfolding lentTo shortTable shortReplies
+unfolding lentTo shortReplies
 returns-3 c =
-    rw (← c .before .before .before .before .table-size .ensures)
-    (passed _ _ _ (not-less _ _ (c .before .before .before .if1 .left)) (passed _ _ _ (not-less _ _ (c .before .before .if2 .left))
-    (chosen _ _ _ (is-less _ _ (c .if3 .taken)) refl)))
-
-returns-4 : tie.Need-returns-4
-unfolding lentTo shortTable shortReplies
-returns-4 c =
-    rw (← c .before .before .before .before .table-size .ensures)
-    (passed _ _ _ (not-less _ _ (c .before .before .before .if1 .left)) (passed _ _ _ (not-less _ _ (c .before .before .if2 .left))
-    (passed _ _ _ (not-less _ _ (c .if3 .left)) refl)))
+    rw (← c .before .before .before .before .before .table-size .ensures)
+    (passed _ _ _ (sym (c .before .before .before .before .tables-short .ensures) ∙ c .before .if1 .left)
+    (passed _ _ _ (sym (c .before .before .is-short .ensures) ∙ c .if2 .left) refl))
 
 pub judge-buffers-spec : {M : Type 1} → statement M
 judge-buffers-spec =
-    tie.close (tie.spec table-size-requires returns returns-2 cast-if3 returns-3 returns-4)
+    tie.close
+    (tie.spec
+    table-size-requires
+    tables-short-requires
+    cast-is-short
+    is-short-requires
+    refuse-requires
+    returns
+    refuse-requires-2
+    returns-2
+    returns-3)

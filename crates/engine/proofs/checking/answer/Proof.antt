@@ -1,22 +1,32 @@
--- `engine::checking::answer` meets its contract.
+-- `engine::checking::answer` meets its contract: nothing is written on a clash.
 use borrow.Author.Needs.{needs}
-use mathlib.Core.Path.{ap, sym, _∙_}
-use lib.ListN.{replicate, length}
+use lib.ListN.{length, replicate}
+use mathlib.Core.Path.{sym, ap, subst, _∙_}
+use Rattle.answers.specs.Clashes.{ClashTold}
+use Rattle.engine.proofs.Steps.{no-clash, left-on-clash, written-else}
 use Rattle.engine.proofs.checking.answer.Statement.{statement}
 use Rattle.engine.proofs.checking.answer.Tie as tie
+
+is-clash-requires : tie.Need-is-clash-requires
+is-clash-requires c κs = search needs
+
+returns : tie.Need-returns
+returns c =
+    let found = sym (c .before .is-clash .ensures) ∙ c .if1 .taken in (left-on-clash _ _ _ found, left-on-clash _ _ _ found)
 
 cast-spread-of : tie.Need-cast-spread-of
 cast-spread-of c = search needs
 
 spread-of-requires : tie.Need-spread-of-requires
-spread-of-requires c κs = c .before .before .before .before .before .before .before .before .pre .0 .trying .few
+spread-of-requires c κs = c .before .before .before .before .before .before .before .before .before .before .pre .0 .trying .few
 
 copy-requires : tie.Need-copy-requires
-copy-requires c κs = c .before .before .before .before .before .before .before .before .before .before .pre .0 .same-size
+copy-requires c κs = c .before .before .before .before .before .before .before .before .before .before .before .before .pre .0 .same-size
 
 reply-all-requires : tie.Need-reply-all-requires
 reply-all-requires c κs =
-    let p = c .before .before .before .before .before .before .before .before .before .before .before .before .before .before .before .before .before .before .before .pre .0 in (
+    let p = c .before .before .before .before .before .before .before .before .before .before .before .before .before .before .before .before .before .before .before .before .before .pre .0 in
+    let nowhere = no-clash _ (sym (c .before .before .before .before .before .before .before .before .before .before .before .before .before .is-clash .ensures) ∙ c .before .before .before .before .before .before .before .before .before .before .before .before .if1 .left) in (
       p .questions,
       (
         record {
@@ -24,13 +34,13 @@ reply-all-requires c κs =
               record {
                 copied = c .before .before .before .before .before .before .before .before .copy .ensures;
                 trying = p .trying;
-                clash-told = p .nowhere;
+                clash-told = subst (ClashTold _ _ _ _) nowhere (p .clash-told);
                 spread-told = c .before .before .before .before .before .before .before .before .before .before .spread-of .ensures;
               };
           selections = p .selections;
-          single = p .single;
+          single = p .single nowhere;
         },
-        c .before .before .before .before .before .before .before .before .before .before .before .before .before .before .before .before .before .before .before .pre .1,
+        c .before .before .before .before .before .before .before .before .before .before .before .before .before .before .before .before .before .before .before .before .before .pre .1,
       ),
     )
 
@@ -43,14 +53,20 @@ same-length c = search needs
 same-length-2 : tie.Need-same-length-2
 same-length-2 c = search needs
 
-returns : tie.Need-returns
-returns c =
-    (c .before .before .clear .ensures ∙ ap (λ k. replicate k 0) (ap length (c .before .before .before .before .before .before .before .before .reply-all .ensures .1 .0) ∙ c .before .before .before .before .before .before .before .before .before .before .before .before .before .before .before .before .before .before .before .before .before .before .before .before .before .before .before .before .pre .0 .same-size), c .before .before .before .before .before .before .before .before .reply-all .ensures .0)
+returns-2 : tie.Need-returns-2
+returns-2 c =
+    let nowhere = sym (c .before .before .before .before .before .before .before .before .before .before .before .before .before .before .before .before .before .before .before .before .before .before .is-clash .ensures) ∙ c .before .before .before .before .before .before .before .before .before .before .before .before .before .before .before .before .before .before .before .before .before .if1 .left in (
+      written-else _ _ _ _ nowhere
+          (c .before .before .clear .ensures ∙ ap (λ k. replicate k 0) (ap length (c .before .before .before .before .before .before .before .before .reply-all .ensures .1 .0) ∙ c .before .before .before .before .before .before .before .before .before .before .before .before .before .before .before .before .before .before .before .before .before .before .before .before .before .before .before .before .before .before .pre .0 .same-size)),
+      written-else _ _ _ _ nowhere (c .before .before .before .before .before .before .before .before .reply-all .ensures .0),
+    )
 
 pub answer-spec : {M : Type 1} → statement M
 answer-spec =
     tie.close
     (tie.spec
+    is-clash-requires
+    returns
     cast-spread-of
     spread-of-requires
     copy-requires
@@ -58,4 +74,4 @@ answer-spec =
     clear-requires
     same-length
     same-length-2
-    returns)
+    returns-2)

@@ -1,9 +1,7 @@
 -- `engine::checking::check_lists` meets its contract: the table, then its clash, then the replies.
 use borrow.Author.Needs.{needs}
-use mathlib.Core.Path.{refl, sym, subst, _∙_}
-use Rattle.rules.specs.declared.clashes.Clash.{Clash}
-use Rattle.answers.specs.Clashes.{ClashTold}
-use Rattle.engine.proofs.Steps.{lists-lawful, lists-lent, lists-held, lists-answering, filled-clash, filled-consistent}
+use mathlib.Core.Path.{refl, sym, _∙_}
+use Rattle.engine.proofs.Steps.{lists-lawful, lists-lent, lists-held, lists-answering, lists-filled}
 use Rattle.engine.proofs.checking.check_lists.Statement.{statement}
 use Rattle.engine.proofs.checking.check_lists.Tie as tie
 
@@ -16,29 +14,20 @@ make-requires c κs = (lists-lawful (c .before .before .before .before .before .
 clash-of-requires : tie.Need-clash-of-requires
 clash-of-requires c κs = lists-lent (c .before .before .before .before .before .before .before .before .before .before .before .before .before .before .before .before .before .before .before .before .before .pre .0) (c .before .before .before .before .before .before .before .before .before .before .before .before .before .before .before .before .before .before .before .before .before .pre .1) (c .before .before .before .make .ensures .0)
 
-enum-known-i : tie.Need-enum-known-i
-enum-known-i c = search needs
-
-enum-told : tie.Need-enum-told
-enum-told c = search needs
-
 answer-requires : tie.Need-answer-requires
 answer-requires c κs =
-    let p = c .before .before .before .before .before .before .before .before .before .before .before .before .before .before .before .before .before .before .before .before .before .before .before .before .before .before .before .before .before .before .before .before .pre in
-    let made = c .before .before .before .before .before .before .before .before .before .before .before .before .before .before .make .ensures .0 in (
-      lists-answering (p .0) (p .1) made (c .before .before .before .before .before .before .before .before .before .before .before .before .before .before .make .ensures .1) (c .before .before .before .before .before .before .before .before .before .before .before .before .before .facts .given ∙ p .0 .facts-size ∙ sym (p .0 .work-size))
-          (subst (ClashTold _ _ _ _) (c .before .before .before .before .before .before .before .before .enum-told .given .1) (c .before .before .before .before .before .before .before .before .before .before .clash-of .ensures)),
+    let p = c .before .before .before .before .before .before .before .before .before .before .before .before .before .before .before .before .before .before .before .before .before .before .before .before .before .before .before .before .before .before .pre in
+    let made = c .before .before .before .before .before .before .before .before .before .before .before .before .make .ensures .0 in (
+      lists-answering (p .0) (p .1) made (c .before .before .before .before .before .before .before .before .before .before .before .before .make .ensures .1) (c .before .before .before .before .before .before .before .before .before .before .before .facts .given ∙ p .0 .facts-size ∙ sym (p .0 .work-size))
+          (c .before .before .before .before .before .before .before .before .clash-of .ensures),
       lists-held (p .0) (p .1) made,
     )
 
-consistent-requires : tie.Need-consistent-requires
-consistent-requires c κs = lists-lent (c .before .before .before .before .before .before .before .before .before .before .before .before .before .before .before .before .before .before .before .before .before .before .before .before .before .before .before .before .before .before .before .before .before .before .before .before .before .before .pre .0) (c .before .before .before .before .before .before .before .before .before .before .before .before .before .before .before .before .before .before .before .before .before .before .before .before .before .before .before .before .before .before .before .before .before .before .before .before .before .before .pre .1) (c .before .before .before .before .before .before .before .before .before .before .before .before .before .before .before .before .before .before .before .before .make .ensures .0)
+outcome-of-requires : tie.Need-outcome-of-requires
+outcome-of-requires c κs = lists-lent (c .before .before .before .before .before .before .before .before .before .before .before .before .before .before .before .before .before .before .before .before .before .before .before .before .before .before .before .before .before .before .before .before .before .before .before .before .pre .0) (c .before .before .before .before .before .before .before .before .before .before .before .before .before .before .before .before .before .before .before .before .before .before .before .before .before .before .before .before .before .before .before .before .before .before .before .before .pre .1) (c .before .before .before .before .before .before .before .before .before .before .before .before .before .before .before .before .before .before .make .ensures .0)
 
 same-length : tie.Need-same-length
 same-length c = search needs
-
-returns : tie.Need-returns
-returns c = filled-clash (c .before .before .before .before .before .before .before .before .before .before .before .before .before .before .before .before .before .before .before .before .before .before .before .before .before .pre .0) (c .before .before .before .before .before .before .before .before .before .before .before .before .before .before .before .before .before .before .before .before .before .before .before .before .before .pre .1) (c .before .before .before .before .before .before .before .make .ensures .0) _ _ (c .before .i .given .1) (c .before .before .before .clash-of .ensures)
 
 same-length-2 : tie.Need-same-length-2
 same-length-2 c = search needs
@@ -46,13 +35,10 @@ same-length-2 c = search needs
 same-length-3 : tie.Need-same-length-3
 same-length-3 c = search needs
 
-same-length-4 : tie.Need-same-length-4
-same-length-4 c = search needs
-
-returns-2 : tie.Need-returns-2
-returns-2 c =
-    filled-consistent (c .before .before .before .before .before .before .before .before .before .before .before .before .before .before .before .before .before .before .before .before .before .before .before .before .before .before .before .before .before .before .before .before .before .before .before .before .before .before .before .pre .0) (c .before .before .before .before .before .before .before .before .before .before .before .before .before .before .before .before .before .before .before .before .before .before .before .before .before .before .before .before .before .before .before .before .before .before .before .before .before .before .before .pre .1) (c .before .before .before .before .before .before .before .before .before .before .before .before .before .before .before .before .before .before .before .before .before .make .ensures .0) (c .before .before .before .before .before .before .before .before .before .before .before .before .before .before .before .enum-told .given .1) (c .before .before .before .before .before .before .before .before .before .before .before .before .before .before .before .before .before .clash-of .ensures) (c .consistent .ensures)
-    (c .before .before .before .before .before .before .answer .ensures .0) (c .before .before .before .before .before .before .answer .ensures .1)
+returns : tie.Need-returns
+returns c =
+    lists-filled (c .before .before .before .before .before .before .before .before .before .before .before .before .before .before .before .before .before .before .before .before .before .before .before .before .before .before .before .before .before .before .before .before .before .before .before .before .before .pre .0) (c .before .before .before .before .before .before .before .before .before .before .before .before .before .before .before .before .before .before .before .before .before .before .before .before .before .before .before .before .before .before .before .before .before .before .before .before .before .pre .1) (c .before .before .before .before .before .before .before .before .before .before .before .before .before .before .before .before .before .before .before .make .ensures .0) (c .before .before .before .before .before .before .before .before .before .before .before .before .before .before .before .clash-of .ensures) (c .outcome-of .ensures) (c .before .before .before .before .before .before .answer .ensures .0)
+    (c .before .before .before .before .before .before .answer .ensures .1)
 
 pub check-lists-spec : {M : Type 1} → statement M
 check-lists-spec =
@@ -61,13 +47,9 @@ check-lists-spec =
     cast-n
     make-requires
     clash-of-requires
-    enum-known-i
-    enum-told
     answer-requires
-    consistent-requires
+    outcome-of-requires
     same-length
-    returns
     same-length-2
     same-length-3
-    same-length-4
-    returns-2)
+    returns)

@@ -1,0 +1,46 @@
+-- `engine::checking::outcome_of` meets its contract: at most 128 × 128 facts of a kind.
+use borrow.Author.Needs.{needs}
+use mathlib.Core.Path.{_≡_, refl, sym, ap, _∙_}
+use Rattle.engine.specs.Steps.{tableOutcome}
+use Rattle.engine.proofs.Steps.{few-facts}
+use Rattle.engine.proofs.checking.outcome_of.Statement.{statement}
+use Rattle.engine.proofs.checking.outcome_of.Tie as tie
+
+enum-known-clash : tie.Need-enum-known-clash
+enum-known-clash c = search needs
+
+enum-told : tie.Need-enum-told
+enum-told c = search needs
+
+count-facts-requires : tie.Need-count-facts-requires
+count-facts-requires c κs = search needs
+
+count-facts-requires-2 : tie.Need-count-facts-requires-2
+count-facts-requires-2 c κs = search needs
+
+cast-t9 : tie.Need-cast-t9
+cast-t9 c =
+    let few = few-facts (c .before .before .before .before .before .pre) _ (c .before .count-facts .ensures) in search needs
+
+cast-t10 : tie.Need-cast-t10
+cast-t10 c =
+    let few = few-facts (c .before .before .before .before .before .pre) _ (c .count-facts2 .ensures) in search needs
+
+returns : tie.Need-returns
+returns c = sym (ap (tableOutcome _ _) (c .before .clash .given .1))
+
+returns-2 : tie.Need-returns-2
+returns-2 c = rw (c .before .before .enum-told .given .1, ← c .before .count-facts .ensures, ← c .count-facts2 .ensures) refl
+
+pub outcome-of-spec : {M : Type 1} → statement M
+outcome-of-spec =
+    tie.close
+    (tie.spec
+    enum-known-clash
+    enum-told
+    count-facts-requires
+    count-facts-requires-2
+    cast-t9
+    cast-t10
+    returns
+    returns-2)
