@@ -1,7 +1,7 @@
 -- What is known where bytes and buffers are accepted, and where they are refused.
 use Prim.Native.Nat.{ℕ, _≤_}
 use lib.ListN.{length}
-use mathlib.Core.Bool.{_||_}
+use mathlib.Core.Bool.{Bool, true, false, _||_}
 use mathlib.Core.List.{List}
 use mathlib.Core.Path.{_≡_, refl, sym, ap, _∙_}
 use native.Mathlib.Omega.{arith}
@@ -30,6 +30,13 @@ pub record Fits (b : List ℕ) (facts work replies : ℕ) (h : Header) (asked : 
 abbrev Judges : List ℕ → ℕ → ℕ → ℕ → SheetRead → Type 0
 Judges b facts work replies (SheetRead.Accepted h asked) = Fits b facts work replies h asked
 Judges b facts work replies (SheetRead.Refused r) = r .at ≤ longest
+
+-- either of two tests holds: the first, or else as the second says
+pub either-first : (a b : Bool) → a ≡ true → true ≡ a || b
+either-first a b e = rw e refl
+
+pub either-second : {r : Bool} (a b : Bool) → a ≡ false → r ≡ b → r ≡ a || b
+either-second a b e is = rw e is
 
 module _ (b : List ℕ) (facts work replies : ℕ) where
   buffers-judged : (h : Header) (asked : Cursor) → readSheet b ≡ SheetRead.Accepted h asked

@@ -49,7 +49,7 @@ pub fn reply_all(
     let n = header.variables;
     let mut left = header.questions;
     let mut cursor = asked;
-    let mut k = 0;
+    let mut k: usize = 0;
     while 0 < left {
         match read_question(sheet, n, cursor) {
             QuestionRead::Asks(q, next) => {

@@ -15,7 +15,7 @@ derive-requires c κs =
     let start = at-group .before .before .before .before .before .before .before .before .before .before .before
     .before in
     let s = start .pre in
-    ((s .0 .square, s .1), may-derive (s .0 .selections) (at-group .group .ensures) (s .0 .pairs))
+    ((s .0 .square, s .1), may-derive (s .0 .selections) (at-group .group .ensures) (search needs))
 
 same-length : tie.Need-same-length
 same-length c = search needs

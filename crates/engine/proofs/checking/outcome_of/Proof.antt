@@ -20,11 +20,15 @@ count-facts-requires-2 c κs = search needs
 
 cast-t9 : tie.Need-cast-t9
 cast-t9 c =
-    let few = few-facts (c .before .before .before .before .before .pre) _ (c .before .count-facts .ensures) in search needs
+    let few = few-facts (c .before .before .before .before .before .pre) _ (c .before .count-facts .ensures) in
+    let few′ = few-facts (c .before .before .before .before .before .pre) _ (c .count-facts2 .ensures) in
+    search needs
 
 cast-t10 : tie.Need-cast-t10
 cast-t10 c =
-    let few = few-facts (c .before .before .before .before .before .pre) _ (c .count-facts2 .ensures) in search needs
+    let few = few-facts (c .before .before .before .before .before .pre) _ (c .before .count-facts .ensures) in
+    let few′ = few-facts (c .before .before .before .before .before .pre) _ (c .count-facts2 .ensures) in
+    search needs
 
 returns : tie.Need-returns
 returns c = sym (ap (tableOutcome _ _) (c .before .clash .given .1))
