@@ -14,7 +14,6 @@ use Rattle.rules.specs.declared.clashes.Clash.{Clash}
 use Rattle.rules.specs.Stated.{ordering, compatibility, selection, labelling}
 use Rattle.rules.specs.Clashes.{clashes}
 use Rattle.rules.proofs.Logic.{last-or-before}
-use Rattle.table.specs.Queue.{queueRoom}
 use Rattle.labels.specs.declared.spread.Spread.{Spread}
 use Rattle.closure.specs.Trials.{Standing, Asking, Tried, Restored}
 use Rattle.bench.specs.Questions.{asked, askedAt, digit, TrialReplied, Replies}

@@ -1,16 +1,14 @@
 -- What is known where bytes and buffers are accepted, and where they are refused.
 use Prim.Native.Nat.{ℕ, _≤_}
-use lib.ListN.{length}
 use mathlib.Core.Bool.{Bool, true, false, _||_}
 use mathlib.Core.List.{List}
-use mathlib.Core.Path.{_≡_, refl, sym, ap, _∙_}
+use mathlib.Core.Path.{_≡_, refl}
 use native.Mathlib.Omega.{arith}
 use Rattle.fields.specs.declared.numbers.Cursor.{Cursor}
 use Rattle.fields.specs.declared.refusals.Refusal.{Refusal}
-use Rattle.fields.specs.Refusals.{shortTable, tableRefusal, shortReplies, repliesRefusal}
+use Rattle.fields.specs.Refusals.{shortTable, shortReplies}
 use Rattle.fields.specs.Tests.{less, pick}
 use Rattle.fields.proofs.Choice.{less-false, or-left, or-right}
-use Rattle.fields.proofs.Chains.{Of, told, known}
 use Rattle.headers.specs.declared.headers.Header.{Header}
 use Rattle.headers.specs.Headers.{tableSize}
 use Rattle.sheet.specs.declared.whole.SheetRead.{SheetRead}

@@ -2,8 +2,8 @@
 use Prim.Native.Nat.{ℕ, zero, suc, _-_, _<_, _≤_}
 use mathlib.Core.Bool.{Bool, true, false}
 use mathlib.Core.List.{List, [], _∷_, _++_}
-use mathlib.Core.Option.{Option, none, some}
-use mathlib.Core.Path.{_≡_, refl, sym, ap, _∙_}
+use mathlib.Core.Option.{none, some}
+use mathlib.Core.Path.{_≡_, refl, _∙_}
 use native.Mathlib.Omega.{arith}
 use Rattle.fields.specs.declared.numbers.Cursor.{Cursor}
 use Rattle.fields.specs.declared.refusals.Place.{Place}
@@ -17,7 +17,7 @@ use Rattle.items.specs.Items.{itemAt, itemsOf}
 use Rattle.items.specs.Statements.{statedIf, statementsOf}
 use Rattle.items.proofs.Runs.{items-over, items-on}
 use Rattle.sheet.specs.declared.whole.SheetRead.{SheetRead}
-use Rattle.sheet.specs.Sheets.{readSheet, sheetOf, sheetAt, allStatements}
+use Rattle.sheet.specs.Sheets.{readSheet, sheetOf, sheetAt}
 use Rattle.sheet.proofs.Theorems.{accepted-sheet}
 use Rattle.rules.specs.Stated.{firstLabel}
 use Rattle.rules.specs.Replies.{statedLabel}

@@ -1,12 +1,12 @@
 -- What a check returns and leaves is true of trees.
 use Prim.Native.Nat.{ℕ, zero, suc, _+_, _*_, _<_}
-use lib.ListN.{length, getD, take, drop}
+use lib.ListN.{length, getD, take}
 use lib.Seq.{take-at}
 use mathlib.Core.Bool.{true, false}
 use mathlib.Core.List.{List, [], _∷_, _++_, map}
 use mathlib.Core.Logic.{_↔_}
-use mathlib.Core.Option.{Option, none, some}
-use mathlib.Core.Path.{_≡_, refl, sym, ap, subst, _∙_}
+use mathlib.Core.Option.{some}
+use mathlib.Core.Path.{_≡_, refl, ap, subst, _∙_}
 use native.Mathlib.Omega.{arith}
 use Rattle.fields.specs.declared.numbers.Cursor.{Cursor}
 use Rattle.fields.specs.declared.numbers.Variable.{Variable}
@@ -15,22 +15,21 @@ use Rattle.headers.specs.declared.headers.Header.{Header}
 use Rattle.items.specs.declared.items.Statement.{Statement}
 use Rattle.items.specs.Statements.{All}
 use Rattle.sheet.specs.declared.whole.SheetRead.{SheetRead}
-use Rattle.sheet.specs.Sheets.{Sheet, readSheet, sheetOf, sheetAt}
+use Rattle.sheet.specs.Sheets.{Sheet, readSheet, sheetOf}
 use Rattle.sheet.proofs.Theorems.{accepted-sheet, accepted-read}
 use Rattle.rules.specs.declared.clashes.Clash.{Clash}
 use Rattle.rules.specs.declared.replies.Reply.{Reply}
-use Rattle.rules.specs.Demand.{Derives, LeastClash, Demand-2}
+use Rattle.rules.specs.Demand.{Derives, Demand-2}
 use Rattle.rules.specs.Derived.{derived}
 use Rattle.rules.specs.Tables.{facts}
-use Rattle.rules.specs.Clashes.{clashOf, isClash, clashes}
+use Rattle.rules.specs.Clashes.{clashOf, clashes}
 use Rattle.rules.specs.Replies.{fails, replyTo, repliesOf, replyNumber}
 use Rattle.rules.proofs.Logic.{contrary}
-use Rattle.trees.specs.Assignments.{Keeps, Breaks}
-use Rattle.trees.specs.Demand.{Met, Unmet, Answers, Demand-3}
+use Rattle.trees.specs.Demand.{Answers, Demand-3}
 use Rattle.trees.proofs.Demands.{demand-2, demand-3, demand-3-asked}
 use Rattle.engine.specs.declared.outcomes.Outcome.{Outcome}
-use Rattle.engine.specs.Outcomes.{kindOf, kindIn, firstIn, secondIn, packed}
-use Rattle.engine.specs.Checks.{judged, outcomeOf, ofClash, whereConsistent, Checked, Returned}
+use Rattle.engine.specs.Outcomes.{kindIn, packed}
+use Rattle.engine.specs.Checks.{judged, outcomeOf, whereConsistent, Checked, Returned}
 use Rattle.engine.specs.Promise.{IsAccepted, IsRefused, questionIn, ByteMeans, Means}
 use Rattle.engine.proofs.Judging.{accepted-fits}
 use Rattle.engine.proofs.Steps.{same-variables}

@@ -1,6 +1,6 @@
 -- A packed outcome taken apart again.
-use Prim.Native.Nat.{ℕ, _+_, _*_, _/_, _%_, _<_}
-use mathlib.Core.Path.{_≡_, refl, sym, ap, _∙_}
+use Prim.Native.Nat.{ℕ, _<_}
+use mathlib.Core.Path.{_≡_}
 use native.Mathlib.Omega.{arith}
 use Rattle.engine.specs.declared.outcomes.Outcome.{Outcome}
 use Rattle.engine.specs.Outcomes.{kindOf, firstOf, secondOf, pack, packed, kindIn, firstIn, secondIn}

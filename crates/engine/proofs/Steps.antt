@@ -1,9 +1,9 @@
 -- The steps of a check of an accepted sheet: what each next call requires, and what all of them leave.
-use Prim.Native.Nat.{ℕ, _*_, _<_}
+use Prim.Native.Nat.{ℕ, _<_}
 use lib.ListN.{length, replicate}
 use mathlib.Core.Bool.{true, false}
 use mathlib.Core.List.{List, map}
-use mathlib.Core.Path.{_≡_, refl, sym, ap, subst, _∙_}
+use mathlib.Core.Path.{_≡_, refl, ap, subst, _∙_}
 use native.Mathlib.Nat.{mul-le-mul}
 use native.Mathlib.Omega.{arith}
 use Rattle.fields.specs.declared.numbers.Cursor.{Cursor}
@@ -11,10 +11,10 @@ use Rattle.headers.specs.declared.headers.Header.{Header}
 use Rattle.headers.specs.Headers.{tableSize}
 use Rattle.items.specs.Statements.{AllName}
 use Rattle.sheet.specs.declared.whole.SheetRead.{SheetRead}
-use Rattle.sheet.specs.Sheets.{Sheet, readSheet, sheetOf, sheetAt}
+use Rattle.sheet.specs.Sheets.{readSheet, sheetOf, sheetAt}
 use Rattle.sheet.proofs.Theorems.{accepted-sheet, accepted-names}
 use Rattle.rules.specs.declared.clashes.Clash.{Clash}
-use Rattle.rules.specs.Facts.{Kind, ordered, compatible}
+use Rattle.rules.specs.Facts.{Kind}
 use Rattle.rules.specs.Tables.{facts, countFacts}
 use Rattle.rules.specs.Derived.{derived}
 use Rattle.rules.specs.Clashes.{clashOf, isClash}
@@ -28,7 +28,7 @@ use Rattle.closure.specs.Making.{Lawful, Made}
 use Rattle.closure.proofs.Theorems.{is-derived-table, clash-is, stands, may-try, one-label-each}
 use Rattle.closure.proofs.Grouped.{made-lent}
 use Rattle.statements.specs.Lists.{InLists}
-use Rattle.replies.specs.Replying.{Held, Asked}
+use Rattle.replies.specs.Replying.{Held}
 use Rattle.engine.specs.declared.outcomes.Outcome.{Outcome}
 use Rattle.engine.specs.Checks.{ofClash, whereConsistent}
 use Rattle.engine.specs.Steps.{tableOutcome, Accepting, Answering, Filled}

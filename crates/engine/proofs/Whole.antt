@@ -1,15 +1,15 @@
 -- From parts of the lent buffers to the buffers.
-use Prim.Native.Nat.{ℕ, _*_, _≤_}
+use Prim.Native.Nat.{ℕ, _*_}
 use lib.ListN.{length, take, drop, replicate, length-replicate, take-append-drop, length-map}
 use lib.Seq.{length-take-le}
 use mathlib.Core.List.{List, _++_, map}
-use mathlib.Core.Path.{_≡_, refl, sym, ap, _∙_}
+use mathlib.Core.Path.{_≡_, refl, sym, _∙_}
 use Rattle.fields.specs.declared.numbers.Cursor.{Cursor}
 use Rattle.fields.specs.declared.refusals.Refusal.{Refusal}
 use Rattle.headers.specs.declared.headers.Header.{Header}
 use Rattle.headers.specs.Headers.{tableSize}
 use Rattle.sheet.specs.declared.whole.SheetRead.{SheetRead}
-use Rattle.sheet.specs.Sheets.{Sheet, sheetOf}
+use Rattle.sheet.specs.Sheets.{sheetOf}
 use Rattle.sheet.proofs.Theorems.{asked-count}
 use Rattle.rules.specs.declared.clashes.Clash.{Clash}
 use Rattle.rules.specs.Derived.{derived}

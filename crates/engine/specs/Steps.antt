@@ -6,8 +6,7 @@ use mathlib.Core.Path.{_≡_}
 use Rattle.fields.specs.declared.numbers.Cursor.{Cursor}
 use Rattle.headers.specs.declared.headers.Header.{Header}
 use Rattle.headers.specs.Headers.{tableSize}
-use Rattle.sheet.specs.declared.whole.SheetRead.{SheetRead}
-use Rattle.sheet.specs.Sheets.{Sheet, readSheet}
+use Rattle.sheet.specs.Sheets.{Sheet}
 use Rattle.rules.specs.declared.clashes.Clash.{Clash}
 use Rattle.rules.specs.Facts.{ordered, compatible}
 use Rattle.rules.specs.Tables.{facts, countFacts}

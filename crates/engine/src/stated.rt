@@ -1,6 +1,5 @@
 // The label that a sheet states for a variable.
 use sheet::Cursor;
-use sheet::Header;
 use sheet::Item;
 use sheet::ItemRead;
 use sheet::Label;
@@ -11,7 +10,7 @@ use sheet::read_record;
 use sheet::read_sheet;
 ghost use mathlib.Core.Path.{_≡_};
 ghost use Rattle.items.specs.Statements.{statementsOf};
-ghost use Rattle.sheet.specs.Sheets.{sheetOf, allStatements};
+ghost use Rattle.sheet.specs.Sheets.{sheetOf};
 ghost use Rattle.rules.specs.Replies.{statedLabel};
 ghost use Rattle.engine.specs.Stated.{labelIn, statedFrom};
 

@@ -17,16 +17,12 @@ use Rattle.items.specs.declared.items.Statement.{Statement}
 use Rattle.items.specs.Items.{itemAt, itemsEnd, itemsOf, questionAt}
 use Rattle.items.specs.Statements.{Names, AllName, questionOf}
 use Rattle.items.proofs.Runs.{run-on, run-reads, items-over, items-on}
-use Rattle.sheet.specs.Sheets.{sheet, sheetOf, sheetAt}
+use Rattle.sheet.specs.Sheets.{sheetOf, sheetAt}
 use Rattle.sheet.proofs.Theorems.{accepted-read, accepted-sheet, accepted-names}
-use Rattle.rules.specs.declared.clashes.Clash.{Clash}
 use Rattle.rules.specs.declared.replies.Reply.{Reply}
 use Rattle.rules.specs.Replies.{replyTo, repliesOf, replyNumber}
 use Rattle.rules.proofs.Lists.{all-split}
-use Rattle.labels.specs.declared.spread.Spread.{Spread}
-use Rattle.closure.specs.Trials.{Restored}
-use Rattle.closure.proofs.Grouped.{with-queue}
-use Rattle.replies.specs.Replying.{Replying, Held, ReplyTold, Asked}
+use Rattle.replies.specs.Replying.{Asked}
 
 -- the numbers of the replies of a list of bytes to some questions
 abbrev numbersOf : List ℕ → List Statement → List ℕ

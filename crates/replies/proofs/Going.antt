@@ -1,6 +1,6 @@
 -- While questions are replied to, what they are tried by stays as it was.
 use Prim.Native.Nat.{ℕ, _+_, _-_, _<_}
-use lib.ListN.{length, set}
+use lib.ListN.{set}
 use mathlib.Core.List.{List}
 use mathlib.Core.Path.{_≡_, refl, sym, subst, _∙_}
 use Rattle.fields.specs.declared.numbers.Cursor.{Cursor}

@@ -1,15 +1,13 @@
 -- Support and the trial decide the reply.
 use Prim.Native.Nat.{ℕ}
 use mathlib.Core.Bool.{Bool, true, false}
-use mathlib.Core.List.{List, [], _∷_, _++_}
+use mathlib.Core.List.{List}
 use mathlib.Core.Path.{_≡_, refl, sym, ap, _∙_}
-use Rattle.fields.specs.Tests.{pick}
 use Rattle.fields.proofs.Choice.{chosen, passed}
 use Rattle.items.specs.declared.items.Statement.{Statement}
 use Rattle.rules.specs.declared.replies.Reply.{Reply}
 use Rattle.rules.specs.Tables.{facts}
 use Rattle.rules.specs.Derived.{factsOf}
-use Rattle.rules.specs.Clashes.{clashes}
 use Rattle.rules.specs.Support.{supported}
 use Rattle.rules.specs.Replies.{replyTo}
 use Rattle.answers.specs.Supports.{SupportTold}

@@ -4,7 +4,7 @@ use lib.ListN.{length, take, set, length-set}
 use lib.Seq.{take-suc-set, length-take-le}
 use mathlib.Core.Bool.{Bool, true, false}
 use mathlib.Core.List.{List, [], _∷_, _++_, append-nil, append-assoc}
-use mathlib.Core.Path.{_≡_, refl, sym, ap, subst, _∙_}
+use mathlib.Core.Path.{_≡_, refl, sym, subst}
 use native.Mathlib.Omega.{arith}
 use Rattle.fields.specs.Tests.{pick, has}
 use Rattle.items.specs.declared.items.Item.{Item}
@@ -13,7 +13,7 @@ use Rattle.items.specs.Statements.{Names, AllName, statedIf, statementsOf}
 use Rattle.rules.specs.Stated.{selection, labelling}
 use Rattle.rules.specs.Facts.{Kind, ordered, compatible, fact}
 use Rattle.rules.proofs.Lists.{all-split}
-use Rattle.selections.proofs.Stands.{subjectIn, more-selections, more-selections-stand, other-than-selection}
+use Rattle.selections.proofs.Stands.{more-selections, more-selections-stand, other-than-selection}
 use Rattle.labels.specs.Labels.{NoLabelling, countsWith, labelsWith}
 use Rattle.labels.proofs.Kept.{noted, other-kind}
 use Rattle.derivation.proofs.Stands.{kindCell, no-subject, more-pairs, more-pairs-stand, other-than-pair}

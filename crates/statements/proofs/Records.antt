@@ -1,8 +1,7 @@
 -- The statements of the records read so far stand in the lists.
-use Prim.Native.Nat.{ℕ, zero, suc, _+_, _*_, _-_, _<_, _≤_}
-use lib.ListN.{length, replicate}
-use mathlib.Core.List.{List, [], _∷_, _++_, append-nil, append-assoc}
-use mathlib.Core.Path.{_≡_, refl, sym, ap, subst, _∙_}
+use Prim.Native.Nat.{ℕ, _+_, _*_, _-_, _<_, _≤_}
+use mathlib.Core.List.{List, [], _++_, append-nil, append-assoc}
+use mathlib.Core.Path.{_≡_, sym, ap, subst, _∙_}
 use native.Mathlib.Omega.{arith}
 use Rattle.fields.specs.declared.numbers.Cursor.{Cursor}
 use Rattle.fields.specs.declared.refusals.Place.{Place}

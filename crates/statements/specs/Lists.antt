@@ -1,14 +1,12 @@
 -- The lists in which statements stand: pairs, selections and labels, as far as they are in use.
-use Prim.Native.Nat.{ℕ, _+_, _<_, _≤_}
+use Prim.Native.Nat.{ℕ, _+_, _≤_}
 use lib.ListN.{length, take, replicate}
-use mathlib.Core.Bool.{Bool}
 use mathlib.Core.List.{List, _++_}
 use mathlib.Core.Path.{_≡_}
 use Rattle.fields.specs.declared.numbers.Cursor.{Cursor}
 use Rattle.headers.specs.declared.headers.Header.{Header}
-use Rattle.items.specs.declared.items.Item.{Item}
 use Rattle.items.specs.declared.items.Statement.{Statement}
-use Rattle.items.specs.Statements.{Names, AllName, statedIf, statementsOf}
+use Rattle.items.specs.Statements.{AllName}
 use Rattle.sheet.specs.declared.whole.SheetRead.{SheetRead}
 use Rattle.sheet.specs.Sheets.{readSheet}
 use Rattle.selections.specs.Listed.{Selections, Listed}

@@ -1,6 +1,6 @@
 -- `engine::checking::outcome_of` meets its contract: at most 128 × 128 facts of a kind.
 use borrow.Author.Needs.{needs}
-use mathlib.Core.Path.{_≡_, refl, sym, ap, _∙_}
+use mathlib.Core.Path.{refl, sym, ap}
 use Rattle.engine.specs.Steps.{tableOutcome}
 use Rattle.engine.proofs.Steps.{few-facts}
 use Rattle.engine.proofs.checking.outcome_of.Statement.{statement}

@@ -1,7 +1,7 @@
 -- `engine::stated::label_of` meets its contract.
 use borrow.Author.Needs.{needs}
 use borrow.Author.Tests.{not-true, not-false}
-use mathlib.Core.Path.{_≡_, refl, sym, _∙_}
+use mathlib.Core.Path.{sym, _∙_}
 use Rattle.fields.proofs.Choice.{is-same, not-same}
 use Rattle.engine.proofs.Labelled.{without-label, other-subject, with-label}
 use Rattle.engine.proofs.stated.label_of.Statement.{statement}

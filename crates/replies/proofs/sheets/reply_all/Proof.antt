@@ -3,9 +3,7 @@ use borrow.Author.Needs.{needs}
 use mathlib.Core.Path.{_≡_, refl, sym, ap, _∙_}
 use native.Mathlib.Omega.{arith}
 use lib.ListN.{length}
-use Rattle.sheet.specs.Sheets.{sheetOf}
-use Rattle.replies.specs.Replying.{Held}
-use Rattle.replies.proofs.Answered.{Answers, answers-start, question-named, answers-next, none-refused}
+use Rattle.replies.proofs.Answered.{answers-start, question-named, none-refused}
 use Rattle.replies.proofs.Answered.{answers-end}
 use Rattle.replies.proofs.Going.{Going, going-start, going-now, going-next, going-restored}
 use Rattle.replies.proofs.sheets.reply_all.Statement.{statement}

@@ -1,5 +1,4 @@
 -- `statements::lists::put_if` meets its contract.
-use borrow.Author.Needs.{needs}
 use Rattle.statements.proofs.Putting.{putting-where, put-where, put-nowhere}
 use Rattle.statements.proofs.lists.put_if.Statement.{statement}
 use Rattle.statements.proofs.lists.put_if.Tie as tie

@@ -1,10 +1,8 @@
 -- `statements::lists::put_statement` meets its contract, kind by kind.
 use borrow.Author.Needs.{needs}
-use mathlib.Core.Path.{refl, subst}
+use mathlib.Core.Path.{refl}
 use native.Mathlib.Omega.{arith}
-use Rattle.items.specs.Statements.{Names}
-use Rattle.rules.specs.Facts.{ordered, compatible, fact}
-use Rattle.rules.specs.Stated.{selection, labelling}
+use Rattle.rules.specs.Facts.{ordered, compatible}
 use Rattle.statements.proofs.Putting.{putting-as, put-same, pair-put, selection-put, label-put}
 use Rattle.statements.proofs.lists.put_statement.Statement.{statement}
 use Rattle.statements.proofs.lists.put_statement.Tie as tie
