@@ -27,13 +27,14 @@ use Rattle.rules.specs.Replies.{fails, replyTo, repliesOf, replyNumber}
 use Rattle.rules.proofs.Logic.{contrary}
 use Rattle.trees.specs.Demand.{Answers, Demand-3}
 use Rattle.trees.proofs.Demands.{demand-2, demand-3, demand-3-asked}
-use Rattle.engine.specs.declared.outcomes.Outcome.{Outcome}
-use Rattle.engine.specs.Outcomes.{kindIn, packed}
-use Rattle.engine.specs.Checks.{judged, outcomeOf, whereConsistent, Checked, Returned}
+use Rattle.outcomes.specs.declared.outcomes.Outcome.{Outcome}
+use Rattle.outcomes.specs.Outcomes.{kindIn, packed}
+use Rattle.outcomes.specs.Judged.{judged}
+use Rattle.engine.specs.Checks.{outcomeOf, whereConsistent, Checked, Returned}
 use Rattle.engine.specs.Promise.{IsAccepted, IsRefused, questionIn, ByteMeans, Means}
-use Rattle.engine.proofs.Judging.{accepted-fits}
+use Rattle.outcomes.proofs.Judging.{accepted-fits}
 use Rattle.engine.proofs.Steps.{same-variables}
-use Rattle.engine.proofs.Packed.{kind-is, first-is, second-is}
+use Rattle.outcomes.proofs.Packed.{kind-is, first-is, second-is}
 
 -- what holds of every question holds of question k
 at-question : (P : Statement → Type 0) (qs : List Statement) (k : ℕ) (q : Statement) → All P qs

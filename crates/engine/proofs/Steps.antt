@@ -29,7 +29,7 @@ use Rattle.closure.proofs.Theorems.{is-derived-table, clash-is, stands, may-try
 use Rattle.closure.proofs.Grouped.{made-lent}
 use Rattle.statements.specs.Lists.{InLists}
 use Rattle.replies.specs.Replying.{Held}
-use Rattle.engine.specs.declared.outcomes.Outcome.{Outcome}
+use Rattle.outcomes.specs.declared.outcomes.Outcome.{Outcome}
 use Rattle.engine.specs.Checks.{ofClash, whereConsistent}
 use Rattle.engine.specs.Steps.{tableOutcome, Accepting, Answering, Filled}
 

@@ -16,10 +16,11 @@ use Rattle.rules.specs.Derived.{derived}
 use Rattle.rules.specs.Clashes.{clashOf}
 use Rattle.rules.specs.Replies.{repliesOf, replyTo, replyNumber}
 use Rattle.rules.proofs.Derived.{derives}
-use Rattle.engine.specs.declared.outcomes.Outcome.{Outcome}
-use Rattle.engine.specs.Checks.{judged, outcomeOf, ofRefusal, over, whereConsistent, Checked}
+use Rattle.outcomes.specs.declared.outcomes.Outcome.{Outcome}
+use Rattle.outcomes.specs.Judged.{judged}
+use Rattle.engine.specs.Checks.{outcomeOf, ofRefusal, over, whereConsistent, Checked}
 use Rattle.engine.specs.Steps.{Accepting, Filled}
-use Rattle.engine.proofs.Judging.{Fits, accepted-fits}
+use Rattle.outcomes.proofs.Judging.{Fits, accepted-fits}
 use Rattle.engine.proofs.Steps.{same-variables, names}
 
 -- a refusal leaves all as it was

@@ -1,37 +1,20 @@
 -- What a check of any bytes gives, and what it leaves in the lent buffers.
 use Prim.Native.Nat.{ℕ, _*_}
 use lib.ListN.{length, drop, replicate}
-use mathlib.Core.Bool.{_||_}
 use mathlib.Core.List.{List, _++_, map}
 use mathlib.Core.Path.{_≡_}
-use Rattle.fields.specs.declared.numbers.Cursor.{Cursor}
 use Rattle.fields.specs.declared.refusals.Refusal.{Refusal}
-use Rattle.fields.specs.Refusals.{shortTable, tableRefusal, shortReplies, repliesRefusal}
-use Rattle.fields.specs.Tests.{pick}
-use Rattle.headers.specs.declared.headers.Header.{Header}
-use Rattle.headers.specs.Headers.{tableSize}
 use Rattle.sheet.specs.declared.whole.SheetRead.{SheetRead}
-use Rattle.sheet.specs.Sheets.{Sheet, thenSheet, readSheet, sheetOf}
+use Rattle.sheet.specs.Sheets.{Sheet, thenSheet, sheetOf}
 use Rattle.rules.specs.declared.clashes.Clash.{Clash}
 use Rattle.rules.specs.Facts.{ordered, compatible}
 use Rattle.rules.specs.Tables.{countFacts}
 use Rattle.rules.specs.Derived.{derived, factsOf}
 use Rattle.rules.specs.Clashes.{clashOf}
 use Rattle.rules.specs.Replies.{repliesOf, replyNumber}
-use Rattle.engine.specs.declared.outcomes.Outcome.{Outcome}
-use Rattle.engine.specs.Outcomes.{packed}
-
--- rows 8 and 9, behind the whole sheet: either table too short for it, then the reply buffer
-unfoldable pub lentTo : Header → Cursor → ℕ → ℕ → ℕ → SheetRead
-lentTo h asked facts work replies =
-    pick (shortTable (tableSize h) facts || shortTable (tableSize h) work) (SheetRead.Refused tableRefusal)
-    (pick (shortReplies (h .questions) replies) (SheetRead.Refused repliesRefusal)
-    (SheetRead.Accepted h asked))
-
--- all rows in their order, for bytes and three lent lengths
-unfoldable pub judged : List ℕ → ℕ → ℕ → ℕ → SheetRead
-judged b facts work replies =
-    thenSheet (readSheet b) SheetRead.Refused λ h asked. lentTo h asked facts work replies
+use Rattle.outcomes.specs.declared.outcomes.Outcome.{Outcome}
+use Rattle.outcomes.specs.Judged.{judged}
+use Rattle.outcomes.specs.Outcomes.{packed}
 
 -- of a sheet: how many facts there are of each kind, or the pair that clashes
 abbrev pub ofClash : Sheet → Clash → Outcome

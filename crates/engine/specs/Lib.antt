@@ -1,6 +1,4 @@
 -- The check of a sheet: its outcome, what it writes, and what both mean.
-pub mod Outcomes
 pub mod Checks
 pub mod Promise
 pub mod Steps
-pub mod Stated

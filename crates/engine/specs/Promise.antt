@@ -15,8 +15,8 @@ use Rattle.rules.specs.Demand.{Derives, LeastClash}
 use Rattle.rules.specs.Tables.{facts}
 use Rattle.trees.specs.Assignments.{Keeps, Breaks}
 use Rattle.trees.specs.Demand.{Met, Unmet, Some, Every}
-use Rattle.engine.specs.Outcomes.{kindIn, firstIn, secondIn}
-use Rattle.engine.specs.Checks.{judged}
+use Rattle.outcomes.specs.Outcomes.{kindIn, firstIn, secondIn}
+use Rattle.outcomes.specs.Judged.{judged}
 
 -- no row of the refusals applies to the bytes and the lent lengths, or one does
 abbrev pub IsAccepted : SheetRead → Type 0

@@ -18,7 +18,7 @@ use Rattle.answers.specs.Clashes.{ClashTold}
 use Rattle.answers.specs.Supports.{SingleLabels}
 use Rattle.closure.specs.Trials.{Trying}
 use Rattle.replies.specs.Replying.{Asked}
-use Rattle.engine.specs.declared.outcomes.Outcome.{Outcome}
+use Rattle.outcomes.specs.declared.outcomes.Outcome.{Outcome}
 use Rattle.engine.specs.Checks.{ofClash, whereConsistent}
 
 -- an accepted sheet, two tables of its size, and as many reply bytes as it has questions

@@ -1,11 +1,11 @@
 // The check of a sheet: all facts, the clash if there is one, else one reply a question.
-use crate::buffers::judge;
-use crate::outcomes::Outcome;
 use answers::clash_of;
 use answers::count_facts;
 use closure::is_clash;
 use closure::make;
 use labels::spread_of;
+use outcomes::Outcome;
+use outcomes::judge;
 use replies::reply_all;
 use rules::Clash;
 use selections::PLACES;

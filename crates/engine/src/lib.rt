@@ -1,9 +1,6 @@
 // The engine: the check of a sheet, for C and for library users.
-mod buffers;
 mod checking;
 mod exports;
-mod outcomes;
-mod stated;
 
 pub use checking::check;
 pub use exports::check_sheet;
@@ -20,5 +17,5 @@ pub use sheet::Variable;
 pub use sheet::read_header;
 pub use sheet::read_sheet;
 pub use sheet::record_part;
-pub use stated::StatedLabel;
-pub use stated::stated_label;
+pub use statements::StatedLabel;
+pub use statements::stated_label;

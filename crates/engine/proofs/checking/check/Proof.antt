@@ -2,7 +2,7 @@
 use borrow.Author.Needs.{needs}
 use lib.Seq.{length-take-le}
 use mathlib.Core.Path.{refl, sym, _∙_}
-use Rattle.engine.proofs.Judging.{accepted-fits, refused-soon}
+use Rattle.outcomes.proofs.Judging.{accepted-fits, refused-soon}
 use Rattle.engine.proofs.Whole.{checked-refused, parts-accepted, checked-accepted}
 use Rattle.engine.proofs.checking.check.Statement.{statement}
 use Rattle.engine.proofs.checking.check.Tie as tie

@@ -1,0 +1,59 @@
+-- `outcomes::buffers::judge_buffers` meets its contract: the rows in their order.
+use borrow.Author.Needs.{needs}
+use mathlib.Core.Path.{refl, sym, _∙_}
+use Rattle.fields.specs.Refusals.{shortReplies}
+use Rattle.fields.proofs.Choice.{chosen, passed}
+use Rattle.outcomes.specs.Judged.{lentTo}
+use Rattle.outcomes.proofs.buffers.judge_buffers.Statement.{statement}
+use Rattle.outcomes.proofs.buffers.judge_buffers.Tie as tie
+
+table-size-requires : tie.Need-table-size-requires
+table-size-requires c κs = search needs
+
+tables-short-requires : tie.Need-tables-short-requires
+tables-short-requires c κs = search needs
+
+cast-is-short : tie.Need-cast-is-short
+cast-is-short c = search needs
+
+is-short-requires : tie.Need-is-short-requires
+is-short-requires c κs = search needs
+
+refuse-requires : tie.Need-refuse-requires
+refuse-requires c κs = search needs
+
+returns : tie.Need-returns
+unfolding lentTo shortReplies
+returns c =
+    rw (← c .before .before .before .before .before .table-size .ensures) (chosen _ _ _ (sym (c .before .before .before .before .tables-short .ensures) ∙ c .before .if1 .taken) (c .refuse .ensures))
+
+refuse-requires-2 : tie.Need-refuse-requires-2
+refuse-requires-2 c κs = search needs
+
+returns-2 : tie.Need-returns-2
+unfolding lentTo shortReplies
+returns-2 c =
+    rw (← c .before .before .before .before .before .before .table-size .ensures)
+    (passed _ _ _ (sym (c .before .before .before .before .before .tables-short .ensures) ∙ c .before .before .if1 .left)
+    (chosen _ _ _ (sym (c .before .before .before .is-short .ensures) ∙ c .before .if2 .taken) (c .refuse2 .ensures)))
+
+returns-3 : tie.Need-returns-3
+unfolding lentTo shortReplies
+returns-3 c =
+    rw (← c .before .before .before .before .before .table-size .ensures)
+    (passed _ _ _ (sym (c .before .before .before .before .tables-short .ensures) ∙ c .before .if1 .left)
+    (passed _ _ _ (sym (c .before .before .is-short .ensures) ∙ c .if2 .left) refl))
+
+pub judge-buffers-spec : {M : Type 1} → statement M
+judge-buffers-spec =
+    tie.close
+    (tie.spec
+    table-size-requires
+    tables-short-requires
+    cast-is-short
+    is-short-requires
+    refuse-requires
+    returns
+    refuse-requires-2
+    returns-2
+    returns-3)

@@ -1,0 +1,25 @@
+-- `outcomes::outcomes::pack` meets its contract.
+use borrow.Author.Needs.{needs}
+use mathlib.Core.Path.{refl}
+use Rattle.outcomes.specs.Outcomes.{pack}
+use Rattle.outcomes.proofs.outcomes.pack.Statement.{statement}
+use Rattle.outcomes.proofs.outcomes.pack.Tie as tie
+
+mul-result : tie.Need-mul-result
+mul-result c = search needs
+
+mul-result-2 : tie.Need-mul-result-2
+mul-result-2 c = search needs
+
+add-result : tie.Need-add-result
+add-result c = search needs
+
+add-result-2 : tie.Need-add-result-2
+add-result-2 c = search needs
+
+returns : tie.Need-returns
+unfolding pack
+returns c = refl
+
+pub pack-spec : {M : Type 1} → statement M
+pack-spec = tie.close (tie.spec mul-result mul-result-2 add-result add-result-2 returns)
