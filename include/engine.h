@@ -45,8 +45,8 @@ enum { ENGINE_LONGEST_SHEET = 14342 };
 //                      where a buffer is short.
 //
 // The engine cannot test what the pointers lead to: all bytes up to the lengths have to be valid
-// memory, no byte may belong to two of the four parts, and no pointer may be null, also where its
-// length is 0.
+// memory, and no byte may belong to two of the four parts. A pointer whose length is 0 is not
+// followed and may be null.
 uint64_t check_sheet(const uint8_t *sheet, size_t sheet_length, uint8_t *facts, size_t facts_length,
     uint8_t *work, size_t work_length, uint8_t *replies, size_t replies_length);
 

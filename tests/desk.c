@@ -32,6 +32,9 @@ struct part {
 static struct part parts[PARTS];
 static size_t page, room_size;
 
+// Whether a null pointer is lent for a part without bytes.
+static bool null_for_none;
+
 // Bytes that no table and no reply has, from which each room of each call takes another run.
 enum { RUNS = 65521 };
 static uint8_t *patterns;
@@ -89,6 +92,12 @@ static void make_patterns(void)
 static uint8_t *part_start(int p)
 {
     return parts[p].room + room_size - parts[p].length;
+}
+
+// What is lent of a part.
+static uint8_t *lent(int p)
+{
+    return parts[p].length == 0 && null_for_none ? NULL : part_start(p);
 }
 
 // Where the part starts in what is expected.
@@ -204,9 +213,8 @@ static bool call(uint64_t *found)
 {
     calling = 1;
     if (sigsetjmp(before_call, 1) == 0) {
-        *found = check_sheet(part_start(SHEET), parts[SHEET].length,
-            part_start(FACTS), parts[FACTS].length, part_start(WORK), parts[WORK].length,
-            part_start(REPLIES), parts[REPLIES].length);
+        *found = check_sheet(lent(SHEET), parts[SHEET].length, lent(FACTS), parts[FACTS].length,
+            lent(WORK), parts[WORK].length, lent(REPLIES), parts[REPLIES].length);
         calling = 0;
         return true;
     }
@@ -247,6 +255,19 @@ static void check_call(const struct sheet *sheet)
         compare_bytes(sheet, p);
 }
 
+// The call, and where a part has no bytes the same with null pointers.
+static void check_pointers(const struct sheet *sheet)
+{
+    bool none = false;
+    for (int p = 0; p < PARTS; p++)
+        none = none || parts[p].length == 0;
+    null_for_none = false;
+    check_call(sheet);
+    null_for_none = true;
+    if (none)
+        check_call(sheet);
+}
+
 // The lengths to be tried, none twice, of a buffer that needs so many bytes; of a refused sheet,
 // any.
 static size_t choose_lengths(const struct sheet *sheet, size_t need, size_t lengths[4])
@@ -274,7 +295,7 @@ static void check_lengths(const struct sheet *sheet)
                 parts[FACTS].length = tables[f];
                 parts[WORK].length = tables[w];
                 parts[REPLIES].length = replies[r];
-                check_call(sheet);
+                check_pointers(sheet);
             }
 }
 

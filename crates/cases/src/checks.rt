@@ -60,7 +60,7 @@ fn less_one(n: usize) -> usize {
     n - 1
 }
 
-// The check with buffers of just the size; then the first table, the second, and the replies a byte short, and all three.
+// The check with buffers of just the size; then with the first table, the second, the replies, and all a byte short.
 pub fn show_short(name: &[u8], bytes: &[u8]) {
     io::write_all(1, name);
     match sheet::read_header(bytes) {

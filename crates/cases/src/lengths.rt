@@ -36,8 +36,8 @@ fn put_every(s: &mut [u8], start: usize, step: usize, value: u8) {
     }
 }
 
-// 1,024 records with all fields and 1,024 questions i[f]j: the longest sheet, one byte less and one more; the first and the
-// last are checked too.
+// 1,024 records with all fields and 1,024 questions i[f]j: the longest sheet, one byte less and one more; the first and
+// the last are checked too.
 pub fn longest(name: &[u8]) {
     let mut s = [0u8; 14343];
     s[0] = 7;

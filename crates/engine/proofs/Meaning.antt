@@ -183,7 +183,8 @@ module _ {b facts₀ work₀ replies₀ facts′ work′ replies′ : List ℕ} 
           replies = λ z k q at.
               byte-means (sheetOf b) q _
               (rw (returned .buffers .replies-are, e, is) (reply-at (replyTo (sheetOf b)) _ (sheetOf b .asked) k q at))
-              (at-question (Answers (sheetOf b)) (sheetOf b .asked) k q (sheet-asked b h asked sheet-read fails-not) at);
+              (at-question (Answers (sheetOf b)) (sheetOf b .asked) k q
+              (sheet-asked b h asked sheet-read fails-not) at);
         }
 
     accepted-means : (clash : Clash) → clashOf (sheetOf b .stated) (sheetOf b .n) ≡ clash

@@ -74,8 +74,8 @@ module _ {b : List ℕ} {h : Header} {asked : Cursor} {facts₀ work replies : L
 
   -- and the table is derived from it
   module _ {starts ends group-features group-children t : List ℕ}
-      (made : Made (h .variables) cells lefts rights subjects features children starts ends group-features group-children
-      t) where
+      (made : Made (h .variables) cells lefts rights subjects features children starts ends group-features
+      group-children t) where
     sheet-names : AllName (h .variables) (sheetOf b .stated)
     sheet-names = names b (a .questions .accepted)
 

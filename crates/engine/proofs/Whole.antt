@@ -94,11 +94,13 @@ module _ (b facts work replies : List ℕ) {h : Header} {asked : Cursor}
               facts-are = rw e (part-over _ facts _ size (derived-size ∙ sym is) (filled .facts-are));
               work-is =
                   rw e
-                  (part-written (clashOf (sheetOf b .stated) (sheetOf b .n)) (replicate (sheetOf b .n * sheetOf b .n) 0) work _ size
+                  (part-written (clashOf (sheetOf b .stated) (sheetOf b .n)) (replicate (sheetOf b .n * sheetOf b .n) 0)
+                  work _ size
                   (length-replicate {A = ℕ} (sheetOf b .n * sheetOf b .n) 0 ∙ sheet-size ∙ sym is) (filled .work-is));
               replies-are =
                   rw e
-                  (part-written (clashOf (sheetOf b .stated) (sheetOf b .n)) (map replyNumber (repliesOf (sheetOf b))) replies _ count
+                  (part-written (clashOf (sheetOf b .stated) (sheetOf b .n)) (map replyNumber (repliesOf (sheetOf b)))
+                  replies _ count
                   (replies-size ∙ sym is′) (filled .replies-are));
             };
       }

@@ -133,8 +133,8 @@ fn check_lists(
     requires { ⌜ Accepting (now sheet) header asked (now facts) (now work) (now replies) ⌝ }
     requires { ⌜ InLists (header .variables) (sheetOf (now sheet) .stated) (now cells) (now lefts) (now rights)
         (now subjects) (now features) (now children) (now counts) (now labels) ⌝ }
-    ensures { λ r. ⌜ Filled (sheetOf (now (sheet .entry))) (now (work .entry)) (now (replies .entry)) (now (facts .exit))
-        (now (work .exit)) (now (replies .exit)) r ⌝ }
+    ensures { λ r. ⌜ Filled (sheetOf (now (sheet .entry))) (now (work .entry)) (now (replies .entry))
+        (now (facts .exit)) (now (work .exit)) (now (replies .exit)) r ⌝ }
 {
     let n = header.variables as usize;
     let mut starts = [0usize; 128];
@@ -190,8 +190,8 @@ fn check_accepted(
     replies: &mut [u8],
 ) -> Outcome
     requires { ⌜ Accepting (now sheet) header asked (now facts) (now work) (now replies) ⌝ }
-    ensures { λ r. ⌜ Filled (sheetOf (now (sheet .entry))) (now (work .entry)) (now (replies .entry)) (now (facts .exit))
-        (now (work .exit)) (now (replies .exit)) r ⌝ }
+    ensures { λ r. ⌜ Filled (sheetOf (now (sheet .entry))) (now (work .entry)) (now (replies .entry))
+        (now (facts .exit)) (now (work .exit)) (now (replies .exit)) r ⌝ }
 {
     let mut cells = [0u8; PAIRS];
     let mut lefts = [0u8; PAIRS];

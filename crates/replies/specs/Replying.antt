@@ -21,7 +21,8 @@ use Rattle.closure.specs.Making.{Answerable}
 -- a closed table in which nothing clashes, with a copy; the selection list, its groups, and the labels
 pub record Replying (n : ℕ) (closed t queue subjects features children : List ℕ)
     (starts ends group-features group-children counts labels : List ℕ) (spread : Spread) : Type 0 where
-  pub answerable : Answerable n closed t queue starts ends group-features group-children counts labels Clash.Nowhere spread
+  pub answerable : Answerable n closed t queue starts ends group-features group-children counts labels Clash.Nowhere
+      spread
   pub selections : Selections n subjects features children
   pub single : SingleLabels n counts
 

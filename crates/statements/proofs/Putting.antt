@@ -159,7 +159,8 @@ module _ {x y : Lists} where
         }
 
   -- a label
-  module _ (i a : ℕ) (few : i < 128) (sized : Sized x) (p : SamePairs x y) (s : SameSelections x y) (l : LabelBehind i a x y) where
+  module _ (i a : ℕ) (few : i < 128) (sized : Sized x) (p : SamePairs x y) (s : SameSelections x y)
+      (l : LabelBehind i a x y) where
     label-sized : Sized y
     label-sized =
         record {

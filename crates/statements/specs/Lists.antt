@@ -80,7 +80,8 @@ selectionsIn (Statement.Compatibility i j) = 0
 selectionsIn (Statement.Selection i f j) = 1
 selectionsIn (Statement.Labelling i a) = 0
 
--- statements can be put into the lists: they name at most 128 variables, and so many pairs and selections more have room
+-- statements can be put into the lists: they name at most 128 variables, and there is room for so many pairs and
+-- selections more
 pub record Putting (added : List Statement) (pairs selections : ℕ) (x : Lists) : Type 0 where
   pub named : AllName 128 added
   pub sized : Sized x

@@ -12,35 +12,49 @@ is-clash-requires c κs = search needs
 
 returns : tie.Need-returns
 returns c =
-    let found = sym (c .before .is-clash .ensures) ∙ c .if1 .taken in (left-on-clash _ _ _ found, left-on-clash _ _ _ found)
+    let at-is-clash = c .before in
+    let found = sym (at-is-clash .is-clash .ensures) ∙ c .if1 .taken in (
+      left-on-clash _ _ _ found,
+      left-on-clash _
+          _ _ found,
+    )
 
 cast-spread-of : tie.Need-cast-spread-of
 cast-spread-of c = search needs
 
 spread-of-requires : tie.Need-spread-of-requires
-spread-of-requires c κs = c .before .before .before .before .before .before .before .before .before .before .pre .0 .trying .few
+spread-of-requires c κs =
+    let start = c .before .before .before .before .before .before .before .before .before .before in
+    start .pre .0 .trying .few
 
 copy-requires : tie.Need-copy-requires
-copy-requires c κs = c .before .before .before .before .before .before .before .before .before .before .before .before .pre .0 .same-size
+copy-requires c κs =
+    let start = c .before .before .before .before .before .before .before .before .before .before .before .before in
+    start .pre .0 .same-size
 
 reply-all-requires : tie.Need-reply-all-requires
 reply-all-requires c κs =
-    let p = c .before .before .before .before .before .before .before .before .before .before .before .before .before .before .before .before .before .before .before .before .before .pre .0 in
-    let nowhere = no-clash _ (sym (c .before .before .before .before .before .before .before .before .before .before .before .before .before .is-clash .ensures) ∙ c .before .before .before .before .before .before .before .before .before .before .before .before .if1 .left) in (
+    let at-copy = c .before .before .before .before .before .before .before .before in
+    let at-spread-of = at-copy .before .before in
+    let at-if1 = at-spread-of .before .before in
+    let at-is-clash = at-if1 .before in
+    let start = at-is-clash .before .before .before .before .before .before .before .before in
+    let p = start .pre .0 in
+    let nowhere = no-clash _ (sym (at-is-clash .is-clash .ensures) ∙ at-if1 .if1 .left) in (
       p .questions,
       (
         record {
           answerable =
               record {
-                copied = c .before .before .before .before .before .before .before .before .copy .ensures;
+                copied = at-copy .copy .ensures;
                 trying = p .trying;
                 clash-told = subst (ClashTold _ _ _ _) nowhere (p .clash-told);
-                spread-told = c .before .before .before .before .before .before .before .before .before .before .spread-of .ensures;
+                spread-told = at-spread-of .spread-of .ensures;
               };
           selections = p .selections;
           single = p .single nowhere;
         },
-        c .before .before .before .before .before .before .before .before .before .before .before .before .before .before .before .before .before .before .before .before .before .pre .1,
+        start .pre .1,
       ),
     )
 
@@ -55,10 +69,17 @@ same-length-2 c = search needs
 
 returns-2 : tie.Need-returns-2
 returns-2 c =
-    let nowhere = sym (c .before .before .before .before .before .before .before .before .before .before .before .before .before .before .before .before .before .before .before .before .before .before .is-clash .ensures) ∙ c .before .before .before .before .before .before .before .before .before .before .before .before .before .before .before .before .before .before .before .before .before .if1 .left in (
+    let at-clear = c .before .before in
+    let at-reply-all = at-clear .before .before .before .before .before .before in
+    let at-if1 = at-reply-all .before .before .before .before .before .before .before .before .before .before
+    .before .before .before in
+    let at-is-clash = at-if1 .before in
+    let start = at-is-clash .before .before .before .before .before .before .before .before in
+    let nowhere = sym (at-is-clash .is-clash .ensures) ∙ at-if1 .if1 .left in (
       written-else _ _ _ _ nowhere
-          (c .before .before .clear .ensures ∙ ap (λ k. replicate k 0) (ap length (c .before .before .before .before .before .before .before .before .reply-all .ensures .1 .0) ∙ c .before .before .before .before .before .before .before .before .before .before .before .before .before .before .before .before .before .before .before .before .before .before .before .before .before .before .before .before .before .before .pre .0 .same-size)),
-      written-else _ _ _ _ nowhere (c .before .before .before .before .before .before .before .before .reply-all .ensures .0),
+          (at-clear .clear .ensures ∙ ap (λ k. replicate k 0) (ap length (at-reply-all .reply-all .ensures .1 .0) ∙
+          start .pre .0 .same-size)),
+      written-else _ _ _ _ nowhere (at-reply-all .reply-all .ensures .0),
     )
 
 pub answer-spec : {M : Type 1} → statement M

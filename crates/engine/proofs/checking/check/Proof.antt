@@ -14,7 +14,10 @@ enum-known-refusal : tie.Need-enum-known-refusal
 enum-known-refusal c = search needs
 
 refused-requires : tie.Need-refused-requires
-refused-requires c κs = refused-soon _ _ _ _ _ (sym (c .before .before .before .judge .ensures) ∙ c .before .refusal .given .1)
+refused-requires c κs =
+    let at-refusal = c .before in
+    let at-judge = at-refusal .before .before in
+    refused-soon _ _ _ _ _ (sym (at-judge .judge .ensures) ∙ at-refusal .refusal .given .1)
 
 enum-known-header : tie.Need-enum-known-header
 enum-known-header c = search needs
@@ -26,28 +29,63 @@ cast-count : tie.Need-cast-count
 cast-count c = search needs
 
 slice-relend-prefix-check-accepted : tie.Need-slice-relend-prefix-check-accepted
-slice-relend-prefix-check-accepted c = rw (c .before .table-size .ensures) (accepted-fits _ _ _ _ _ _ (sym (c .before .before .before .before .before .judge .ensures) ∙ c .before .before .before .header .given .1) .facts-fit)
+slice-relend-prefix-check-accepted c =
+    let at-table-size = c .before in
+    let at-header = at-table-size .before .before in
+    let at-judge = at-header .before .before in
+    rw (at-table-size .table-size .ensures) (accepted-fits _ _ _ _ _ _ (sym (at-judge .judge .ensures) ∙ at-header
+    .header .given .1) .facts-fit)
 
 slice-aggregate-check-accepted : tie.Need-slice-aggregate-check-accepted
-slice-aggregate-check-accepted c = sym (length-take-le _ _ (rw (c .before .before .table-size .ensures) (accepted-fits _ _ _ _ _ _ (sym (c .before .before .before .before .before .before .judge .ensures) ∙ c .before .before .before .before .header .given .1) .facts-fit)))
+slice-aggregate-check-accepted c =
+    let at-table-size = c .before .before in
+    let at-header = at-table-size .before .before in
+    let at-judge = at-header .before .before in
+    sym (length-take-le _ _ (rw (at-table-size .table-size .ensures) (accepted-fits _ _ _ _ _ _ (sym (at-judge
+    .judge .ensures) ∙ at-header .header .given .1) .facts-fit)))
 
 slice-relend-prefix-check-accepted-2 : tie.Need-slice-relend-prefix-check-accepted-2
-slice-relend-prefix-check-accepted-2 c = rw (c .before .before .table-size .ensures) (accepted-fits _ _ _ _ _ _ (sym (c .before .before .before .before .before .before .judge .ensures) ∙ c .before .before .before .before .header .given .1) .work-fits)
+slice-relend-prefix-check-accepted-2 c =
+    let at-table-size = c .before .before in
+    let at-header = at-table-size .before .before in
+    let at-judge = at-header .before .before in
+    rw (at-table-size .table-size .ensures) (accepted-fits _ _ _ _ _ _ (sym (at-judge .judge .ensures) ∙ at-header
+    .header .given .1) .work-fits)
 
 slice-aggregate-check-accepted-2 : tie.Need-slice-aggregate-check-accepted-2
-slice-aggregate-check-accepted-2 c = sym (length-take-le _ _ (rw (c .before .before .before .table-size .ensures) (accepted-fits _ _ _ _ _ _ (sym (c .before .before .before .before .before .before .before .judge .ensures) ∙ c .before .before .before .before .before .header .given .1) .work-fits)))
+slice-aggregate-check-accepted-2 c =
+    let at-table-size = c .before .before .before in
+    let at-header = at-table-size .before .before in
+    let at-judge = at-header .before .before in
+    sym (length-take-le _ _ (rw (at-table-size .table-size .ensures) (accepted-fits _ _ _ _ _ _ (sym (at-judge
+    .judge .ensures) ∙ at-header .header .given .1) .work-fits)))
 
 slice-relend-prefix-check-accepted-3 : tie.Need-slice-relend-prefix-check-accepted-3
-slice-relend-prefix-check-accepted-3 c = accepted-fits _ _ _ _ _ _ (sym (c .before .before .before .before .before .before .before .judge .ensures) ∙ c .before .before .before .before .before .header .given .1) .replies-fit
+slice-relend-prefix-check-accepted-3 c =
+    let at-header = c .before .before .before .before .before in
+    let at-judge = at-header .before .before in
+    accepted-fits _ _ _ _ _ _ (sym (at-judge .judge .ensures) ∙ at-header .header .given .1) .replies-fit
 
 slice-aggregate-check-accepted-3 : tie.Need-slice-aggregate-check-accepted-3
-slice-aggregate-check-accepted-3 c = sym (length-take-le _ _ (accepted-fits _ _ _ _ _ _ (sym (c .before .before .before .before .before .before .before .before .judge .ensures) ∙ c .before .before .before .before .before .before .header .given .1) .replies-fit))
+slice-aggregate-check-accepted-3 c =
+    let at-header = c .before .before .before .before .before .before in
+    let at-judge = at-header .before .before in
+    sym (length-take-le _ _ (accepted-fits _ _ _ _ _ _ (sym (at-judge .judge .ensures) ∙ at-header .header .given
+    .1) .replies-fit))
 
 check-accepted-requires : tie.Need-check-accepted-requires
-check-accepted-requires c κs = parts-accepted _ _ _ _ (sym (c .before .before .before .before .before .before .before .before .judge .ensures) ∙ c .before .before .before .before .before .before .header .given .1) _ _ (c .before .before .before .before .table-size .ensures) refl
+check-accepted-requires c κs =
+    let at-table-size = c .before .before .before .before in
+    let at-header = at-table-size .before .before in
+    let at-judge = at-header .before .before in
+    parts-accepted _ _ _ _ (sym (at-judge .judge .ensures) ∙ at-header .header .given .1) _ _ (at-table-size
+    .table-size .ensures) refl
 
 returns : tie.Need-returns
-returns c = checked-refused (sym (c .before .before .before .before .judge .ensures) ∙ c .before .before .refusal .given .1) (c .refused .ensures)
+returns c =
+    let at-refusal = c .before .before in
+    let at-judge = at-refusal .before .before in
+    checked-refused (sym (at-judge .judge .ensures) ∙ at-refusal .refusal .given .1) (c .refused .ensures)
 
 same-length : tie.Need-same-length
 same-length c = search needs
@@ -59,7 +97,13 @@ same-length-3 : tie.Need-same-length-3
 same-length-3 c = search needs
 
 returns-2 : tie.Need-returns-2
-returns-2 c = checked-accepted _ _ _ _ (sym (c .before .before .before .before .before .before .before .before .before .before .before .before .before .before .before .judge .ensures) ∙ c .before .before .before .before .before .before .before .before .before .before .before .before .before .header .given .1) _ _ (c .before .before .before .before .before .before .before .before .before .before .before .table-size .ensures) refl (c .before .before .before .before .before .before .check-accepted .ensures)
+returns-2 c =
+    let at-check-accepted = c .before .before .before .before .before .before in
+    let at-table-size = at-check-accepted .before .before .before .before .before in
+    let at-header = at-table-size .before .before in
+    let at-judge = at-header .before .before in
+    checked-accepted _ _ _ _ (sym (at-judge .judge .ensures) ∙ at-header .header .given .1) _ _ (at-table-size
+    .table-size .ensures) refl (at-check-accepted .check-accepted .ensures)
 
 pub check-spec : {M : Type 1} → statement M
 check-spec =

@@ -9,22 +9,40 @@ cast-n : tie.Need-cast-n
 cast-n c = search needs
 
 make-requires : tie.Need-make-requires
-make-requires c κs = (lists-lawful (c .before .before .before .before .before .before .before .before .before .before .before .before .before .before .before .before .before .pre .0) (c .before .before .before .before .before .before .before .before .before .before .before .before .before .before .before .before .before .pre .1), refl)
+make-requires c κs =
+    let start = c .before .before .before .before .before .before .before .before .before .before .before .before
+    .before .before .before .before .before in
+    (lists-lawful (start .pre .0) (start .pre .1), refl)
 
 clash-of-requires : tie.Need-clash-of-requires
-clash-of-requires c κs = lists-lent (c .before .before .before .before .before .before .before .before .before .before .before .before .before .before .before .before .before .before .before .before .before .pre .0) (c .before .before .before .before .before .before .before .before .before .before .before .before .before .before .before .before .before .before .before .before .before .pre .1) (c .before .before .before .make .ensures .0)
+clash-of-requires c κs =
+    let at-make = c .before .before .before in
+    let start = at-make .before .before .before .before .before .before .before .before .before .before .before
+    .before .before .before .before .before .before .before in
+    lists-lent (start .pre .0) (start .pre .1) (at-make .make .ensures .0)
 
 answer-requires : tie.Need-answer-requires
 answer-requires c κs =
-    let p = c .before .before .before .before .before .before .before .before .before .before .before .before .before .before .before .before .before .before .before .before .before .before .before .before .before .before .before .before .before .before .pre in
-    let made = c .before .before .before .before .before .before .before .before .before .before .before .before .make .ensures .0 in (
-      lists-answering (p .0) (p .1) made (c .before .before .before .before .before .before .before .before .before .before .before .before .make .ensures .1) (c .before .before .before .before .before .before .before .before .before .before .before .facts .given ∙ p .0 .facts-size ∙ sym (p .0 .work-size))
-          (c .before .before .before .before .before .before .before .before .clash-of .ensures),
+    let at-clash-of = c .before .before .before .before .before .before .before .before in
+    let at-facts = at-clash-of .before .before .before in
+    let at-make = at-facts .before in
+    let start = at-make .before .before .before .before .before .before .before .before .before .before .before
+    .before .before .before .before .before .before .before in
+    let p = start .pre in
+    let made = at-make .make .ensures .0 in (
+      lists-answering (p .0) (p .1) made (at-make .make .ensures .1) (at-facts .facts .given ∙ p .0 .facts-size ∙
+          sym (p .0 .work-size))
+          (at-clash-of .clash-of .ensures),
       lists-held (p .0) (p .1) made,
     )
 
 outcome-of-requires : tie.Need-outcome-of-requires
-outcome-of-requires c κs = lists-lent (c .before .before .before .before .before .before .before .before .before .before .before .before .before .before .before .before .before .before .before .before .before .before .before .before .before .before .before .before .before .before .before .before .before .before .before .before .pre .0) (c .before .before .before .before .before .before .before .before .before .before .before .before .before .before .before .before .before .before .before .before .before .before .before .before .before .before .before .before .before .before .before .before .before .before .before .before .pre .1) (c .before .before .before .before .before .before .before .before .before .before .before .before .before .before .before .before .before .before .make .ensures .0)
+outcome-of-requires c κs =
+    let at-make = c .before .before .before .before .before .before .before .before .before .before .before .before
+    .before .before .before .before .before .before in
+    let start = at-make .before .before .before .before .before .before .before .before .before .before .before
+    .before .before .before .before .before .before .before in
+    lists-lent (start .pre .0) (start .pre .1) (at-make .make .ensures .0)
 
 same-length : tie.Need-same-length
 same-length c = search needs
@@ -37,8 +55,14 @@ same-length-3 c = search needs
 
 returns : tie.Need-returns
 returns c =
-    lists-filled (c .before .before .before .before .before .before .before .before .before .before .before .before .before .before .before .before .before .before .before .before .before .before .before .before .before .before .before .before .before .before .before .before .before .before .before .before .before .pre .0) (c .before .before .before .before .before .before .before .before .before .before .before .before .before .before .before .before .before .before .before .before .before .before .before .before .before .before .before .before .before .before .before .before .before .before .before .before .before .pre .1) (c .before .before .before .before .before .before .before .before .before .before .before .before .before .before .before .before .before .before .before .make .ensures .0) (c .before .before .before .before .before .before .before .before .before .before .before .before .before .before .before .clash-of .ensures) (c .outcome-of .ensures) (c .before .before .before .before .before .before .answer .ensures .0)
-    (c .before .before .before .before .before .before .answer .ensures .1)
+    let at-answer = c .before .before .before .before .before .before in
+    let at-clash-of = at-answer .before .before .before .before .before .before .before .before .before in
+    let at-make = at-clash-of .before .before .before .before in
+    let start = at-make .before .before .before .before .before .before .before .before .before .before .before
+    .before .before .before .before .before .before .before in
+    lists-filled (start .pre .0) (start .pre .1) (at-make .make .ensures .0) (at-clash-of .clash-of .ensures) (c
+    .outcome-of .ensures) (at-answer .answer .ensures .0)
+    (at-answer .answer .ensures .1)
 
 pub check-lists-spec : {M : Type 1} → statement M
 check-lists-spec =

@@ -20,21 +20,28 @@ count-facts-requires-2 c κs = search needs
 
 cast-t9 : tie.Need-cast-t9
 cast-t9 c =
-    let few = few-facts (c .before .before .before .before .before .pre) _ (c .before .count-facts .ensures) in
-    let few′ = few-facts (c .before .before .before .before .before .pre) _ (c .count-facts2 .ensures) in
+    let at-count-facts = c .before in
+    let start = at-count-facts .before .before .before .before in
+    let few = few-facts (start .pre) _ (at-count-facts .count-facts .ensures) in
+    let few′ = few-facts (start .pre) _ (c .count-facts2 .ensures) in
     search needs
 
 cast-t10 : tie.Need-cast-t10
 cast-t10 c =
-    let few = few-facts (c .before .before .before .before .before .pre) _ (c .before .count-facts .ensures) in
-    let few′ = few-facts (c .before .before .before .before .before .pre) _ (c .count-facts2 .ensures) in
+    let at-count-facts = c .before in
+    let start = at-count-facts .before .before .before .before in
+    let few = few-facts (start .pre) _ (at-count-facts .count-facts .ensures) in
+    let few′ = few-facts (start .pre) _ (c .count-facts2 .ensures) in
     search needs
 
 returns : tie.Need-returns
-returns c = sym (ap (tableOutcome _ _) (c .before .clash .given .1))
+returns c = let at-clash = c .before in sym (ap (tableOutcome _ _) (at-clash .clash .given .1))
 
 returns-2 : tie.Need-returns-2
-returns-2 c = rw (c .before .before .enum-told .given .1, ← c .before .count-facts .ensures, ← c .count-facts2 .ensures) refl
+returns-2 c =
+    let at-count-facts = c .before in
+    let at-enum-told = at-count-facts .before in
+    rw (at-enum-told .enum-told .given .1, ← at-count-facts .count-facts .ensures, ← c .count-facts2 .ensures) refl
 
 pub outcome-of-spec : {M : Type 1} → statement M
 outcome-of-spec =

@@ -20,7 +20,9 @@ same-length-3 : tie.Need-same-length-3
 same-length-3 c = search needs
 
 returns : tie.Need-returns
-returns c = let returned = returned-so (c .before .before .before .before .before .before .before .check .ensures) (c .packed .ensures) in (returned, means returned)
+returns c =
+    let at-check = c .before .before .before .before .before .before .before in
+    let returned = returned-so (at-check .check .ensures) (c .packed .ensures) in (returned, means returned)
 
 pub check-sheet-spec : {M : Type 1} → statement M
 check-sheet-spec =

@@ -19,11 +19,17 @@ enum-known-refusal c = search needs
 
 returns : tie.Need-returns
 unfolding judged
-returns c = rw (← c .before .before .before .before .read-sheet .ensures, c .before .before .header .given .1) (c .judge-buffers .ensures)
+returns c =
+    let at-header = c .before .before in
+    let at-read-sheet = at-header .before .before in
+    rw (← at-read-sheet .read-sheet .ensures, at-header .header .given .1) (c .judge-buffers .ensures)
 
 returns-2 : tie.Need-returns-2
 unfolding judged
-returns-2 c = rw (← c .before .before .before .read-sheet .ensures, c .before .refusal .given .1) refl
+returns-2 c =
+    let at-refusal = c .before in
+    let at-read-sheet = at-refusal .before .before in
+    rw (← at-read-sheet .read-sheet .ensures, at-refusal .refusal .given .1) refl
 
 pub judge-spec : {M : Type 1} → statement M
 judge-spec =

@@ -25,7 +25,11 @@ refuse-requires c κs = search needs
 returns : tie.Need-returns
 unfolding lentTo shortReplies
 returns c =
-    rw (← c .before .before .before .before .before .table-size .ensures) (chosen _ _ _ (sym (c .before .before .before .before .tables-short .ensures) ∙ c .before .if1 .taken) (c .refuse .ensures))
+    let at-if1 = c .before in
+    let at-tables-short = at-if1 .before .before .before in
+    let at-table-size = at-tables-short .before in
+    rw (← at-table-size .table-size .ensures) (chosen _ _ _ (sym (at-tables-short .tables-short .ensures) ∙ at-if1
+    .if1 .taken) (c .refuse .ensures))
 
 refuse-requires-2 : tie.Need-refuse-requires-2
 refuse-requires-2 c κs = search needs
@@ -33,16 +37,25 @@ refuse-requires-2 c κs = search needs
 returns-2 : tie.Need-returns-2
 unfolding lentTo shortReplies
 returns-2 c =
-    rw (← c .before .before .before .before .before .before .table-size .ensures)
-    (passed _ _ _ (sym (c .before .before .before .before .before .tables-short .ensures) ∙ c .before .before .if1 .left)
-    (chosen _ _ _ (sym (c .before .before .before .is-short .ensures) ∙ c .before .if2 .taken) (c .refuse2 .ensures)))
+    let at-if2 = c .before in
+    let at-if1 = at-if2 .before in
+    let at-is-short = at-if1 .before in
+    let at-tables-short = at-is-short .before .before in
+    let at-table-size = at-tables-short .before in
+    rw (← at-table-size .table-size .ensures)
+    (passed _ _ _ (sym (at-tables-short .tables-short .ensures) ∙ at-if1 .if1 .left)
+    (chosen _ _ _ (sym (at-is-short .is-short .ensures) ∙ at-if2 .if2 .taken) (c .refuse2 .ensures)))
 
 returns-3 : tie.Need-returns-3
 unfolding lentTo shortReplies
 returns-3 c =
-    rw (← c .before .before .before .before .before .table-size .ensures)
-    (passed _ _ _ (sym (c .before .before .before .before .tables-short .ensures) ∙ c .before .if1 .left)
-    (passed _ _ _ (sym (c .before .before .is-short .ensures) ∙ c .if2 .left) refl))
+    let at-if1 = c .before in
+    let at-is-short = at-if1 .before in
+    let at-tables-short = at-is-short .before .before in
+    let at-table-size = at-tables-short .before in
+    rw (← at-table-size .table-size .ensures)
+    (passed _ _ _ (sym (at-tables-short .tables-short .ensures) ∙ at-if1 .if1 .left)
+    (passed _ _ _ (sym (at-is-short .is-short .ensures) ∙ c .if2 .left) refl))
 
 pub judge-buffers-spec : {M : Type 1} → statement M
 judge-buffers-spec =

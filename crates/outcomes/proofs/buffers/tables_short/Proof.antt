@@ -11,7 +11,9 @@ is-short-requires c κs = search needs
 
 returns : tie.Need-returns
 unfolding shortTable
-returns c = either-first _ _ (sym (c .before .is-short .ensures) ∙ c .if1 .taken)
+returns c =
+    let at-is-short = c .before in
+    either-first _ _ (sym (at-is-short .is-short .ensures) ∙ c .if1 .taken)
 
 is-short-requires-2 : tie.Need-is-short-requires-2
 is-short-requires-2 c κs = search needs
@@ -19,7 +21,9 @@ is-short-requires-2 c κs = search needs
 returns-2 : tie.Need-returns-2
 unfolding shortTable
 returns-2 c =
-    either-second _ _ (sym (c .before .before .is-short .ensures) ∙ c .before .if1 .left) (c .is-short2 .ensures)
+    let at-if1 = c .before in
+    let at-is-short = at-if1 .before in
+    either-second _ _ (sym (at-is-short .is-short .ensures) ∙ at-if1 .if1 .left) (c .is-short2 .ensures)
 
 pub tables-short-spec : {M : Type 1} → statement M
 tables-short-spec = tie.close (tie.spec is-short-requires returns is-short-requires-2 returns-2)

@@ -18,7 +18,7 @@ abbrev μ-loop : tie.MeasureT-loop
     left
 
 loop-holds : tie.Need-loop-holds Inv-loop μ-loop
-loop-holds c = gathers-start _ _ _ refl refl (c .before .before .pre)
+loop-holds c = let start = c .before .before in gathers-start _ _ _ refl refl (start .pre)
 
 read-record-requires : tie.Need-read-record-requires Inv-loop μ-loop
 read-record-requires c κs = search needs
@@ -28,26 +28,47 @@ enum-known-x c = search needs
 
 put-record-requires : tie.Need-put-record-requires Inv-loop μ-loop
 put-record-requires c κs =
-    gathers-put (c .before .before .before .before .before .before .before .before .before .before .before .before .before .loop .inv) (c .before .before .before .before .before .before .before .before .before .before .before .before .loop-test .taken) (sym (c .before .before .before .before .before .before .before .before .before .before .before .read-record .ensures) ∙ c .before .before .before .before .before .before .before .before .before .x .given .1)
+    let at-x = c .before .before .before .before .before .before .before .before .before in
+    let at-read-record = at-x .before .before in
+    let at-loop-test = at-read-record .before in
+    let at-loop = at-loop-test .before in
+    gathers-put (at-loop .loop .inv) (at-loop-test .loop-test .taken) (sym (at-read-record .read-record .ensures) ∙
+    at-x .x .given .1)
 
 sub-left : tie.Need-sub-left Inv-loop μ-loop
-sub-left c = omega (arith, c .before .before .before .before .before .before .before .before .before .before .before .before .before .loop-test .taken)
+sub-left c =
+    let at-loop-test = c .before .before .before .before .before .before .before .before .before .before .before
+    .before .before in
+    omega (arith, at-loop-test .loop-test .taken)
 
 loop-less : tie.Need-loop-less Inv-loop μ-loop
-loop-less c = omega (arith, c .before .before .before .before .before .before .before .before .before .before .before .before .before .loop-test .taken)
+loop-less c =
+    let at-loop-test = c .before .before .before .before .before .before .before .before .before .before .before
+    .before .before in
+    omega (arith, at-loop-test .loop-test .taken)
 
 loop-again : tie.Need-loop-again Inv-loop μ-loop
 loop-again c =
-    gathers-next (c .before .before .before .before .before .before .before .before .before .before .before .before .before .before .loop .inv) (c .before .before .before .before .before .before .before .before .before .before .before .before .before .loop-test .taken) (sym (c .before .before .before .before .before .before .before .before .before .before .before .before .read-record .ensures) ∙ c .before .before .before .before .before .before .before .before .before .before .x .given .1) (c .put-record .ensures)
+    let at-x = c .before .before .before .before .before .before .before .before .before .before in
+    let at-read-record = at-x .before .before in
+    let at-loop-test = at-read-record .before in
+    let at-loop = at-loop-test .before in
+    gathers-next (at-loop .loop .inv) (at-loop-test .loop-test .taken) (sym (at-read-record .read-record .ensures)
+    ∙ at-x .x .given .1) (c .put-record .ensures)
 
 enum-told : tie.Need-enum-told Inv-loop μ-loop
 enum-told c = search needs
 
 returns : tie.Need-returns Inv-loop μ-loop
-returns c = absurd (none-refused (c .before .before .before .before .loop .inv) (c .before .before .before .loop-test .taken) (sym (c .before .before .read-record .ensures) ∙ c .enum-told .given .1))
+returns c =
+    let at-read-record = c .before .before in
+    let at-loop-test = at-read-record .before in
+    let at-loop = at-loop-test .before in
+    absurd (none-refused (at-loop .loop .inv) (at-loop-test .loop-test .taken) (sym (at-read-record .read-record
+    .ensures) ∙ c .enum-told .given .1))
 
 returns-2 : tie.Need-returns-2 Inv-loop μ-loop
-returns-2 c = gathers-end (c .before .loop .inv) (c .loop-test .left)
+returns-2 c = let at-loop = c .before in gathers-end (at-loop .loop .inv) (c .loop-test .left)
 
 pub gather-spec : {M : Type 1} → statement M
 gather-spec =

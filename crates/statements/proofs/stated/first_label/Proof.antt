@@ -31,31 +31,53 @@ enum-told : tie.Need-enum-told Inv-loop μ-loop
 enum-told c = search needs
 
 sub-left : tie.Need-sub-left Inv-loop μ-loop
-sub-left c = omega (arith, c .before .before .before .before .before .before .before .loop-test .taken)
+sub-left c =
+    let at-loop-test = c .before .before .before .before .before .before .before in
+    omega (arith, at-loop-test .loop-test .taken)
 
 loop-less : tie.Need-loop-less Inv-loop μ-loop
-loop-less c = omega (arith, c .before .before .before .before .before .before .before .loop-test .taken)
+loop-less c =
+    let at-loop-test = c .before .before .before .before .before .before .before in
+    omega (arith, at-loop-test .loop-test .taken)
 
 loop-again : tie.Need-loop-again Inv-loop μ-loop
 loop-again c =
-    sym (label-later _ _ _ _ _ (c .before .before .before .before .before .before .before .loop-test .taken) _ _ (sym (c .before .before .before .before .before .before .read-record .ensures) ∙ c .before .before .before .before .x .given .1) (sym (c .before .before .label-of .ensures) ∙ ap labelIn (c .enum-told .given .1))) ∙ c .before .before .before .before .before .before .before .before .loop .inv
+    let at-label-of = c .before .before in
+    let at-x = at-label-of .before .before in
+    let at-read-record = at-x .before .before in
+    let at-loop-test = at-read-record .before in
+    let at-loop = at-loop-test .before in
+    sym (label-later _ _ _ _ _ (at-loop-test .loop-test .taken) _ _ (sym (at-read-record .read-record .ensures) ∙
+    at-x .x .given .1) (sym (at-label-of .label-of .ensures) ∙ ap labelIn (c .enum-told .given .1))) ∙ at-loop
+    .loop .inv
 
 enum-known-a : tie.Need-enum-known-a Inv-loop μ-loop
 enum-known-a c = search needs
 
 returns : tie.Need-returns Inv-loop μ-loop
 returns c =
-    sym (label-found _ _ _ _ _ (c .before .before .before .before .before .before .before .before .loop-test .taken) _ _ _ (sym (c .before .before .before .before .before .before .before .read-record .ensures) ∙ c .before .before .before .before .before .x .given .1) (sym (c .before .before .before .label-of .ensures) ∙ ap labelIn (c .before .a .given .1))) ∙ c .before .before .before .before .before .before .before .before .before .loop .inv
+    let at-a = c .before in
+    let at-label-of = at-a .before .before in
+    let at-x = at-label-of .before .before in
+    let at-read-record = at-x .before .before in
+    let at-loop-test = at-read-record .before in
+    let at-loop = at-loop-test .before in
+    sym (label-found _ _ _ _ _ (at-loop-test .loop-test .taken) _ _ _ (sym (at-read-record .read-record .ensures) ∙
+    at-x .x .given .1) (sym (at-label-of .label-of .ensures) ∙ ap labelIn (at-a .a .given .1))) ∙ at-loop .loop .inv
 
 enum-told-2 : tie.Need-enum-told-2 Inv-loop μ-loop
 enum-told-2 c = search needs
 
 returns-2 : tie.Need-returns-2 Inv-loop μ-loop
 returns-2 c =
-    sym (labels-refused _ _ _ _ _ (c .before .before .before .loop-test .taken) _ (sym (c .before .before .read-record .ensures) ∙ c .enum-told2 .given .1)) ∙ c .before .before .before .before .loop .inv
+    let at-read-record = c .before .before in
+    let at-loop-test = at-read-record .before in
+    let at-loop = at-loop-test .before in
+    sym (labels-refused _ _ _ _ _ (at-loop-test .loop-test .taken) _ (sym (at-read-record .read-record .ensures) ∙
+    c .enum-told2 .given .1)) ∙ at-loop .loop .inv
 
 returns-3 : tie.Need-returns-3 Inv-loop μ-loop
-returns-3 c = sym (labels-over _ _ _ _ _ (c .loop-test .left)) ∙ c .before .loop .inv
+returns-3 c = let at-loop = c .before in sym (labels-over _ _ _ _ _ (c .loop-test .left)) ∙ at-loop .loop .inv
 
 pub first-label-spec : {M : Type 1} → statement M
 first-label-spec =

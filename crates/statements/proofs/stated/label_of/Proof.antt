@@ -11,13 +11,24 @@ has-bit-requires : tie.Need-has-bit-requires
 has-bit-requires c κs = search needs
 
 returns : tie.Need-returns
-returns c = sym (without-label _ _ (sym (c .before .has-bit .ensures) ∙ not-true _ (c .if1 .taken)))
+returns c =
+    let at-has-bit = c .before in
+    sym (without-label _ _ (sym (at-has-bit .has-bit .ensures) ∙ not-true _ (c .if1 .taken)))
 
 returns-2 : tie.Need-returns-2
-returns-2 c = sym (other-subject _ _ (sym (c .before .before .before .before .has-bit .ensures) ∙ not-false _ (c .before .before .before .if1 .left)) (not-same _ _ (λ e. c .if2 .taken (sym e))))
+returns-2 c =
+    let at-if1 = c .before .before .before in
+    let at-has-bit = at-if1 .before in
+    sym (other-subject _ _ (sym (at-has-bit .has-bit .ensures) ∙ not-false _ (at-if1 .if1 .left)) (not-same _ _ (λ
+    e. c .if2 .taken (sym e))))
 
 returns-3 : tie.Need-returns-3
-returns-3 c = sym (with-label _ _ (sym (c .before .before .before .before .before .has-bit .ensures) ∙ not-false _ (c .before .before .before .before .if1 .left)) (is-same _ _ (sym (c .before .if2 .left))))
+returns-3 c =
+    let at-if2 = c .before in
+    let at-if1 = at-if2 .before .before .before in
+    let at-has-bit = at-if1 .before in
+    sym (with-label _ _ (sym (at-has-bit .has-bit .ensures) ∙ not-false _ (at-if1 .if1 .left)) (is-same _ _ (sym
+    (at-if2 .if2 .left))))
 
 pub label-of-spec : {M : Type 1} → statement M
 label-of-spec = tie.close (tie.spec has-bit-requires returns returns-2 returns-3)

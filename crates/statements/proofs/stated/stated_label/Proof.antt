@@ -18,10 +18,16 @@ enum-told : tie.Need-enum-told
 enum-told c = search needs
 
 returns : tie.Need-returns
-returns c = c .first-label .ensures ∙ sym (accepted-label _ _ _ _ (sym (c .before .before .before .before .read-sheet .ensures) ∙ c .before .before .header .given .1))
+returns c =
+    let at-header = c .before .before in
+    let at-read-sheet = at-header .before .before in
+    c .first-label .ensures ∙ sym (accepted-label _ _ _ _ (sym (at-read-sheet .read-sheet .ensures) ∙ at-header
+    .header .given .1))
 
 returns-2 : tie.Need-returns-2
-returns-2 c = sym (refused-label _ _ _ (sym (c .before .before .read-sheet .ensures) ∙ c .enum-told .given .1))
+returns-2 c =
+    let at-read-sheet = c .before .before in
+    sym (refused-label _ _ _ (sym (at-read-sheet .read-sheet .ensures) ∙ c .enum-told .given .1))
 
 pub stated-label-spec : {M : Type 1} → statement M
 stated-label-spec =

@@ -37,15 +37,20 @@ pack-requires-3 c κs = search needs
 
 returns : tie.Need-returns
 unfolding packed
-returns c = c .pack .ensures ∙ sym (ap packed (c .before .before .self .given .1))
+returns c = let at-self = c .before .before in c .pack .ensures ∙ sym (ap packed (at-self .self .given .1))
 
 returns-2 : tie.Need-returns-2
 unfolding packed
-returns-2 c = c .pack2 .ensures ∙ sym (ap packed (c .before .before .before .before .self2 .given .1))
+returns-2 c =
+    let at-self2 = c .before .before .before .before in
+    c .pack2 .ensures ∙ sym (ap packed (at-self2 .self2 .given .1))
 
 returns-3 : tie.Need-returns-3
 unfolding packed
-returns-3 c = rw (c .before .before .before .self3 .given .1, ← c .before .number .ensures) (c .pack3 .ensures)
+returns-3 c =
+    let at-number = c .before in
+    let at-self3 = at-number .before .before in
+    rw (at-self3 .self3 .given .1, ← at-number .number .ensures) (c .pack3 .ensures)
 
 pub packed-spec : {M : Type 1} → statement M
 packed-spec =
