@@ -3,7 +3,7 @@ use Prim.Native.Nat.{ℕ, _<_}
 use lib.ListN.{length, replicate}
 use mathlib.Core.Bool.{true, false}
 use mathlib.Core.List.{List, map}
-use mathlib.Core.Path.{_≡_, refl, ap, subst, _∙_}
+use mathlib.Core.Path.{_≡_, refl, ap, subst}
 use native.Mathlib.Nat.{mul-le-mul}
 use native.Mathlib.Omega.{arith}
 use Rattle.fields.specs.declared.numbers.Cursor.{Cursor}
@@ -30,8 +30,8 @@ use Rattle.closure.proofs.Grouped.{made-lent}
 use Rattle.statements.specs.Lists.{InLists}
 use Rattle.replies.specs.Replying.{Held}
 use Rattle.outcomes.specs.declared.outcomes.Outcome.{Outcome}
-use Rattle.engine.specs.Checks.{ofClash, whereConsistent}
-use Rattle.engine.specs.Steps.{tableOutcome, Accepting, Answering, Filled}
+use Rattle.engine.specs.Checks.{tableOutcome, whereConsistent}
+use Rattle.engine.specs.Steps.{Accepting, Answering, Filled}
 
 -- a count of facts fits in two bytes
 pub few-facts : {n : ℕ} {t : List ℕ} → Lent n t → (kind : Kind) {r : ℕ} → r ≡ countFacts n (facts n t) kind → r < 65536
@@ -121,11 +121,6 @@ module _ {b : List ℕ} {h : Header} {asked : Cursor} {facts₀ work replies : L
               (l .selections-stand) (l .labelled) (subst (ClashTold _ _ _ _) e told);
         }
 
-    outcome-is : (clash : Clash) → tableOutcome (h .variables) t clash ≡ ofClash (sheetOf b) clash
-    outcome-is Clash.Nowhere =
-        let n-is = same-variables b (a .questions .accepted) in rw (n-is, ← (rw n-is at table-is)) refl
-    outcome-is (Clash.Between i j) = refl
-
     -- so all is as it has to be
     pub lists-filled : {work′ replies′ : List ℕ} {clash : Clash} {r : Outcome}
         → ClashTold (h .variables) t counts labels clash → r ≡ tableOutcome (h .variables) t clash
@@ -135,9 +130,10 @@ module _ {b : List ℕ} {h : Header} {asked : Cursor} {facts₀ work replies : L
     unfolding tableSize
     lists-filled {clash = clash} told outcome cleared replied =
         let is = clash-told clash told in
+        let n-is = same-variables b (a .questions .accepted) in
         record {
-          outcome = outcome ∙ outcome-is clash ∙ ap (ofClash (sheetOf b)) is;
+          outcome = rw (← is, ← table-is, n-is) outcome;
           facts-are = table-is;
-          work-is = rw (← is, same-variables b (a .questions .accepted), ← a .work-size) cleared;
+          work-is = rw (← is, n-is, ← a .work-size) cleared;
           replies-are = rw (← is) replied;
         }

@@ -8,20 +8,23 @@ use Rattle.sheet.specs.declared.whole.SheetRead.{SheetRead}
 use Rattle.sheet.specs.Sheets.{Sheet, thenSheet, sheetOf}
 use Rattle.rules.specs.declared.clashes.Clash.{Clash}
 use Rattle.rules.specs.Facts.{ordered, compatible}
-use Rattle.rules.specs.Tables.{countFacts}
-use Rattle.rules.specs.Derived.{derived, factsOf}
+use Rattle.rules.specs.Tables.{facts, countFacts}
+use Rattle.rules.specs.Derived.{derived}
 use Rattle.rules.specs.Clashes.{clashOf}
 use Rattle.rules.specs.Replies.{repliesOf, replyNumber}
 use Rattle.outcomes.specs.declared.outcomes.Outcome.{Outcome}
 use Rattle.outcomes.specs.Judged.{judged}
 use Rattle.outcomes.specs.Outcomes.{packed}
 
--- of a sheet: how many facts there are of each kind, or the pair that clashes
-abbrev pub ofClash : Sheet → Clash → Outcome
-ofClash s Clash.Nowhere =
-    Outcome.Consistent (countFacts (s .n) (factsOf (s .stated) (s .n)) ordered)
-    (countFacts (s .n) (factsOf (s .stated) (s .n)) compatible)
-ofClash s (Clash.Between i j) = Outcome.Clash i j
+-- of a table: how many facts it has of each kind, or the pair that clashes in it
+abbrev pub tableOutcome : ℕ → List ℕ → Clash → Outcome
+tableOutcome n t Clash.Nowhere =
+    Outcome.Consistent (countFacts n (facts n t) ordered) (countFacts n (facts n t) compatible)
+tableOutcome n t (Clash.Between i j) = Outcome.Clash i j
+
+-- of a sheet
+abbrev pub sheetOutcome : Sheet → Outcome
+sheetOutcome s = tableOutcome (s .n) (derived (s .stated) (s .n)) (clashOf (s .stated) (s .n))
 
 abbrev pub ofRefusal : Refusal → Outcome
 ofRefusal r = Outcome.Refused (r .fault) (r .at)
@@ -29,8 +32,7 @@ ofRefusal r = Outcome.Refused (r .fault) (r .at)
 -- the outcome
 unfoldable pub outcomeOf : List ℕ → ℕ → ℕ → ℕ → Outcome
 outcomeOf b facts work replies =
-    thenSheet (judged b facts work replies) ofRefusal
-    λ h asked. ofClash (sheetOf b) (clashOf (sheetOf b .stated) (sheetOf b .n))
+    thenSheet (judged b facts work replies) ofRefusal λ h asked. sheetOutcome (sheetOf b)
 
 -- the first bytes of a buffer written over, and the others as they were
 abbrev pub over : List ℕ → List ℕ → List ℕ

@@ -8,8 +8,6 @@ use Rattle.headers.specs.declared.headers.Header.{Header}
 use Rattle.headers.specs.Headers.{tableSize}
 use Rattle.sheet.specs.Sheets.{Sheet}
 use Rattle.rules.specs.declared.clashes.Clash.{Clash}
-use Rattle.rules.specs.Facts.{ordered, compatible}
-use Rattle.rules.specs.Tables.{facts, countFacts}
 use Rattle.rules.specs.Derived.{derived}
 use Rattle.rules.specs.Clashes.{clashOf}
 use Rattle.rules.specs.Replies.{repliesOf, replyNumber}
@@ -19,19 +17,13 @@ use Rattle.answers.specs.Supports.{SingleLabels}
 use Rattle.closure.specs.Trials.{Trying}
 use Rattle.replies.specs.Replying.{Asked}
 use Rattle.outcomes.specs.declared.outcomes.Outcome.{Outcome}
-use Rattle.engine.specs.Checks.{ofClash, whereConsistent}
+use Rattle.engine.specs.Checks.{sheetOutcome, whereConsistent}
 
 -- an accepted sheet, two tables of its size, and as many reply bytes as it has questions
 pub record Accepting (s : List ℕ) (h : Header) (asked : Cursor) (facts work replies : List ℕ) : Type 0 where
   pub questions : Asked s h asked replies
   pub facts-size : length facts ≡ tableSize h
   pub work-size : length work ≡ tableSize h
-
--- the outcome of a table with the facts of a sheet
-abbrev pub tableOutcome : ℕ → List ℕ → Clash → Outcome
-tableOutcome n t Clash.Nowhere =
-    Outcome.Consistent (countFacts n (facts n t) ordered) (countFacts n (facts n t) compatible)
-tableOutcome n t (Clash.Between i j) = Outcome.Clash i j
 
 -- a closed table and its clash, what it was made by, and room for a copy and the replies
 pub record Answering (clash : Clash) (s : List ℕ) (h : Header) (asked : Cursor)
@@ -46,7 +38,7 @@ pub record Answering (clash : Clash) (s : List ℕ) (h : Header) (asked : Cursor
 
 -- the outcome of a sheet, its table, and where nothing clashes a cleared second table and the replies
 pub record Filled (s : Sheet) (work replies facts′ work′ replies′ : List ℕ) (r : Outcome) : Type 0 where
-  pub outcome : r ≡ ofClash s (clashOf (s .stated) (s .n))
+  pub outcome : r ≡ sheetOutcome s
   pub facts-are : facts′ ≡ derived (s .stated) (s .n)
   pub work-is : work′ ≡ whereConsistent (clashOf (s .stated) (s .n)) (replicate (s .n * s .n) 0) work
   pub replies-are : replies′

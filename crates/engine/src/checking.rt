@@ -28,8 +28,8 @@ ghost use Rattle.rules.specs.Replies.{repliesOf, replyNumber};
 ghost use Rattle.answers.specs.Cells.{Lent};
 ghost use Rattle.statements.specs.Lists.{InLists};
 ghost use Rattle.replies.specs.Replying.{Held};
-ghost use Rattle.engine.specs.Checks.{ofRefusal, whereConsistent, Checked};
-ghost use Rattle.engine.specs.Steps.{tableOutcome, Answering, Accepting, Filled};
+ghost use Rattle.engine.specs.Checks.{tableOutcome, ofRefusal, whereConsistent, Checked};
+ghost use Rattle.engine.specs.Steps.{Answering, Accepting, Filled};
 
 // The outcome of a refusal.
 fn refused(refusal: Refusal) -> Outcome

@@ -1,7 +1,7 @@
 -- `engine::checking::outcome_of` meets its contract: at most 128 × 128 facts of a kind.
 use borrow.Author.Needs.{needs}
 use mathlib.Core.Path.{refl, sym, ap}
-use Rattle.engine.specs.Steps.{tableOutcome}
+use Rattle.engine.specs.Checks.{tableOutcome}
 use Rattle.engine.proofs.Steps.{few-facts}
 use Rattle.engine.proofs.checking.outcome_of.Statement.{statement}
 use Rattle.engine.proofs.checking.outcome_of.Tie as tie
