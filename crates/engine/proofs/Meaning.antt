@@ -16,7 +16,7 @@ use Rattle.items.specs.declared.items.Statement.{Statement}
 use Rattle.items.specs.Statements.{All}
 use Rattle.sheet.specs.declared.whole.SheetRead.{SheetRead}
 use Rattle.sheet.specs.Sheets.{Sheet, readSheet, sheetOf}
-use Rattle.sheet.proofs.Theorems.{accepted-sheet, accepted-read}
+use Rattle.sheet.proofs.Theorems.{accepted-sheet, accepted-read, accepted-variables}
 use Rattle.rules.specs.declared.clashes.Clash.{Clash}
 use Rattle.rules.specs.declared.replies.Reply.{Reply}
 use Rattle.rules.specs.Demand.{Derives, Demand-2}
@@ -33,7 +33,6 @@ use Rattle.outcomes.specs.Judged.{judged}
 use Rattle.engine.specs.Checks.{outcomeOf, whereConsistent, Checked, Returned}
 use Rattle.engine.specs.Promise.{IsAccepted, IsRefused, questionIn, ByteMeans, Means}
 use Rattle.outcomes.proofs.Judging.{accepted-fits}
-use Rattle.engine.proofs.Steps.{same-variables}
 use Rattle.outcomes.proofs.Packed.{kind-is, first-is, second-is}
 
 -- what holds of every question holds of question k
@@ -165,7 +164,8 @@ module _ {b facts₀ work₀ replies₀ facts′ work′ replies′ : List ℕ} 
         }
       where
         variables-few : sheetOf b .n < 65536
-        variables-few = omega (arith, same-variables b sheet-read, accepted-read b h asked sheet-read .heads .few)
+        variables-few =
+            omega (arith, accepted-variables b h asked sheet-read, accepted-read b h asked sheet-read .heads .few)
 
     consistent-means : clashOf (sheetOf b .stated) (sheetOf b .n) ≡ Clash.Nowhere
         → Means b facts₀ work₀ replies₀ facts′ replies′ r

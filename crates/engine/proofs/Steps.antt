@@ -3,16 +3,15 @@ use Prim.Native.Nat.{ℕ, _<_}
 use lib.ListN.{length, replicate}
 use mathlib.Core.Bool.{true, false}
 use mathlib.Core.List.{List, map}
-use mathlib.Core.Path.{_≡_, refl, ap, subst}
+use mathlib.Core.Path.{_≡_, refl, subst}
 use native.Mathlib.Nat.{mul-le-mul}
 use native.Mathlib.Omega.{arith}
 use Rattle.fields.specs.declared.numbers.Cursor.{Cursor}
 use Rattle.headers.specs.declared.headers.Header.{Header}
 use Rattle.headers.specs.Headers.{tableSize}
 use Rattle.items.specs.Statements.{AllName}
-use Rattle.sheet.specs.declared.whole.SheetRead.{SheetRead}
-use Rattle.sheet.specs.Sheets.{readSheet, sheetOf, sheetAt}
-use Rattle.sheet.proofs.Theorems.{accepted-sheet, accepted-names}
+use Rattle.sheet.specs.Sheets.{sheetOf}
+use Rattle.sheet.proofs.Theorems.{accepted-variables, accepted-stated}
 use Rattle.rules.specs.declared.clashes.Clash.{Clash}
 use Rattle.rules.specs.Facts.{Kind}
 use Rattle.rules.specs.Tables.{facts, countFacts}
@@ -53,17 +52,7 @@ pub written-else : (clash : Clash) (written buffer after : List ℕ) → isClash
 unfolding whereConsistent
 written-else clash written buffer after e is = rw (no-clash clash e) is
 
--- an accepted sheet has the variables of its header, and names no other
-module _ (b : List ℕ) {h : Header} {asked : Cursor} (accepted : readSheet b ≡ SheetRead.Accepted h asked) where
-  pub same-variables : sheetOf b .n ≡ h .variables
-  unfolding sheetAt
-  same-variables = ap (λ s. s .n) (accepted-sheet b h asked accepted)
-
-  pub names : AllName (h .variables) (sheetOf b .stated)
-  unfolding sheetAt
-  names = rw (accepted-sheet b h asked accepted) (accepted-names b h asked accepted .stated)
-
--- what it states stands in lists
+-- what an accepted sheet states stands in lists
 module _ {b : List ℕ} {h : Header} {asked : Cursor} {facts₀ work replies : List ℕ}
     (a : Accepting b h asked facts₀ work replies)
     {cells lefts rights subjects features children counts labels : List ℕ}
@@ -77,11 +66,11 @@ module _ {b : List ℕ} {h : Header} {asked : Cursor} {facts₀ work replies : L
       (made : Made (h .variables) cells lefts rights subjects features children starts ends group-features
       group-children t) where
     sheet-names : AllName (h .variables) (sheetOf b .stated)
-    sheet-names = names b (a .questions .accepted)
+    sheet-names = accepted-stated b h asked (a .questions .accepted)
 
     table-is : t ≡ derived (sheetOf b .stated) (sheetOf b .n)
     table-is =
-        rw (same-variables b (a .questions .accepted))
+        rw (accepted-variables b h asked (a .questions .accepted))
         (is-derived-table (l .lawful-selections) (made .grouping) (made .from) sheet-names (l .pairs-stand)
         (l .selections-stand))
 
@@ -101,7 +90,7 @@ module _ {b : List ℕ} {h : Header} {asked : Cursor} {facts₀ work replies : L
     clash-told : (clash : Clash) → ClashTold (h .variables) t counts labels clash
         → clash ≡ clashOf (sheetOf b .stated) (sheetOf b .n)
     clash-told clash told =
-        rw (same-variables b (a .questions .accepted))
+        rw (accepted-variables b h asked (a .questions .accepted))
         (clash-is (l .lawful-selections) (made .grouping) (made .from) sheet-names (l .pairs-stand)
         (l .selections-stand) (l .labelled) clash told)
 
@@ -130,7 +119,7 @@ module _ {b : List ℕ} {h : Header} {asked : Cursor} {facts₀ work replies : L
     unfolding tableSize
     lists-filled {clash = clash} told outcome cleared replied =
         let is = clash-told clash told in
-        let n-is = same-variables b (a .questions .accepted) in
+        let n-is = accepted-variables b h asked (a .questions .accepted) in
         record {
           outcome = rw (← is, ← table-is, n-is) outcome;
           facts-are = table-is;

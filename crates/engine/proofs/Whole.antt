@@ -10,7 +10,7 @@ use Rattle.headers.specs.declared.headers.Header.{Header}
 use Rattle.headers.specs.Headers.{tableSize}
 use Rattle.sheet.specs.declared.whole.SheetRead.{SheetRead}
 use Rattle.sheet.specs.Sheets.{sheetOf}
-use Rattle.sheet.proofs.Theorems.{asked-count}
+use Rattle.sheet.proofs.Theorems.{accepted-variables, accepted-stated, asked-count}
 use Rattle.rules.specs.declared.clashes.Clash.{Clash}
 use Rattle.rules.specs.Derived.{derived}
 use Rattle.rules.specs.Clashes.{clashOf}
@@ -21,7 +21,6 @@ use Rattle.outcomes.specs.Judged.{judged}
 use Rattle.engine.specs.Checks.{outcomeOf, ofRefusal, over, whereConsistent, Checked}
 use Rattle.engine.specs.Steps.{Accepting, Filled}
 use Rattle.outcomes.proofs.Judging.{Fits, accepted-fits}
-use Rattle.engine.proofs.Steps.{same-variables, names}
 
 -- a refusal leaves all as it was
 pub checked-refused : {b facts work replies : List ℕ} {r : Refusal} {o : Outcome}
@@ -66,12 +65,12 @@ module _ (b facts work replies : List ℕ) {h : Header} {asked : Cursor}
 
   sheet-size : sheetOf b .n * sheetOf b .n ≡ tableSize h
   unfolding tableSize
-  sheet-size = rw (same-variables b (fits .accepted)) refl
+  sheet-size = rw (accepted-variables b h asked (fits .accepted)) refl
 
   derived-size : length (derived (sheetOf b .stated) (sheetOf b .n)) ≡ tableSize h
   derived-size =
       derives (sheetOf b .n) (sheetOf b .stated)
-      (rw (same-variables b (fits .accepted)) (names b (fits .accepted))) .shape .size
+      (rw (accepted-variables b h asked (fits .accepted)) (accepted-stated b h asked (fits .accepted))) .shape .size
       ∙ sheet-size
 
   replies-size : length (map replyNumber (repliesOf (sheetOf b))) ≡ h .questions

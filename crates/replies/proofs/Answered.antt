@@ -18,7 +18,7 @@ use Rattle.items.specs.Items.{itemAt, itemsEnd, itemsOf, questionAt}
 use Rattle.items.specs.Statements.{Names, AllName, questionOf}
 use Rattle.items.proofs.Runs.{run-on, run-reads, items-over, items-on}
 use Rattle.sheet.specs.Sheets.{sheetOf, sheetAt}
-use Rattle.sheet.proofs.Theorems.{accepted-read, accepted-sheet, accepted-names}
+use Rattle.sheet.proofs.Theorems.{accepted-read, accepted-sheet, accepted-variables, accepted-asked}
 use Rattle.rules.specs.declared.replies.Reply.{Reply}
 use Rattle.rules.specs.Replies.{replyTo, repliesOf, replyNumber}
 use Rattle.rules.proofs.Lists.{all-split}
@@ -48,8 +48,8 @@ answers-start s h asked replies a =
     let read = accepted-read s h asked (a .accepted) in
     let is = accepted-sheet s h asked (a .accepted) in
     record {
-      variables = ap (λ y. y .n) is;
-      named = rw is (accepted-names s h asked (a .accepted) .asked);
+      variables = accepted-variables s h asked (a .accepted);
+      named = accepted-asked s h asked (a .accepted);
       done = [];
       written = refl;
       rest = ap (λ y. y .asked) is;

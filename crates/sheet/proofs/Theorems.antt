@@ -1,7 +1,7 @@
 -- What the engine and the theory rest on, of every list of bytes.
 use Prim.Native.Nat.{ℕ, _≤_}
 use mathlib.Core.List.{List}
-use mathlib.Core.Path.{_≡_, refl, subst, _∙_}
+use mathlib.Core.Path.{_≡_, refl, ap, subst, _∙_}
 use lib.ListN.{length, length-map}
 use Rattle.fields.specs.declared.numbers.Cursor.{Cursor}
 use Rattle.fields.specs.declared.refusals.Place.{Place}
@@ -9,7 +9,7 @@ use Rattle.fields.specs.declared.refusals.Refusal.{Refusal}
 use Rattle.fields.proofs.Chains.{told}
 use Rattle.headers.specs.declared.headers.Header.{Header}
 use Rattle.items.specs.Items.{itemsOf}
-use Rattle.items.specs.Statements.{questionOf}
+use Rattle.items.specs.Statements.{AllName, questionOf}
 use Rattle.items.proofs.Runs.{run-count}
 use Rattle.sheet.specs.declared.whole.SheetRead.{SheetRead}
 use Rattle.sheet.specs.Sheets.{Named, readSheet, longest, sheetAt, sheetOf}
@@ -34,6 +34,17 @@ module _ (s : List ℕ) (h : Header) (asked : Cursor) (e : readSheet s ≡ Sheet
 
   pub accepted-names : Named (sheetAt s h asked)
   accepted-names = subst Named accepted-sheet (names-below s)
+
+  -- so it has the variables of its header, and names no other
+  pub accepted-variables : sheetOf s .n ≡ h .variables
+  unfolding sheetAt
+  accepted-variables = ap (λ x. x .n) accepted-sheet
+
+  pub accepted-stated : AllName (h .variables) (sheetOf s .stated)
+  accepted-stated = rw (← accepted-variables) (names-below s .stated)
+
+  pub accepted-asked : AllName (h .variables) (sheetOf s .asked)
+  accepted-asked = rw (← accepted-variables) (names-below s .asked)
 
   -- it is no longer than the longest
   pub accepted-short : length s ≤ longest

@@ -15,7 +15,7 @@ use Rattle.items.specs.Items.{itemAt, itemsEnd, itemsOf}
 use Rattle.items.specs.Statements.{Names, AllName, statementsOf}
 use Rattle.items.proofs.Runs.{run-on, run-reads, items-over, items-on}
 use Rattle.sheet.specs.Sheets.{allStatements, sheetOf, sheetAt}
-use Rattle.sheet.proofs.Theorems.{accepted-read, accepted-sheet, accepted-names}
+use Rattle.sheet.proofs.Theorems.{accepted-read, accepted-sheet, accepted-stated}
 use Rattle.rules.proofs.Lists.{all-split, all-name-more}
 use Rattle.selections.proofs.Stands.{no-selections, no-selections-stand}
 use Rattle.labels.proofs.Kept.{no-labels}
@@ -46,7 +46,7 @@ gathers-start s h x no-pair no-selection g =
     let records = read .heads .records in
     record {
       few = few;
-      named = rw is (accepted-names s h (g .asked) (g .accepted) .stated);
+      named = accepted-stated s h (g .asked) (g .accepted);
       done = [];
       stand =
           record {
