@@ -3,3 +3,9 @@ pub mod Accepted
 pub mod Named
 pub mod Longest
 pub mod Theorems
+pub mod Rests
+pub mod Readings
+pub mod Called
+pub mod Nexts
+pub mod NextsOver
+pub mod Lent

@@ -2,3 +2,4 @@
 pub mod Told
 pub mod Sheets
 pub mod Parts
+pub mod Readings

@@ -1,5 +1,6 @@
 // Sheets: the whole byte format, and its reader.
 mod parts;
+mod reading;
 mod whole;
 
 pub use fields::Cursor;
@@ -22,5 +23,6 @@ pub use items::items_end;
 pub use items::read_question;
 pub use items::read_record;
 pub use parts::record_part;
+pub use reading::Reader;
 pub use whole::SheetRead;
 pub use whole::read_sheet;

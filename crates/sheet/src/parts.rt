@@ -1,12 +1,11 @@
 // A record's own bytes, as a part of the caller's sheet.
+use crate::reading::behind_record;
 use crate::whole::SheetRead;
 use crate::whole::read_sheet;
 use fields::Place;
 use headers::Header;
 use items::EndRead;
-use items::ItemRead;
 use items::items_end;
-use items::read_record;
 ghost use mathlib.Core.Path.{_≡_};
 ghost use Rattle.sheet.specs.Parts.{partAt, recordBytes};
 
@@ -19,14 +18,12 @@ fn part_at<'a>(sheet: &'a [u8], header: Header, which: u16) -> &'a [u8]
         EndRead::At(start) => start,
         EndRead::Refused(_) => return &sheet[..0],
     };
-    match read_record(sheet, n, start) {
-        ItemRead::Is(_, end) => {
-            let a = start.at;
-            let e = end.at;
-            &sheet[a..e]
-        }
-        ItemRead::Refused(_) => &sheet[..0],
+    let a = start.at;
+    let end = behind_record(sheet, n, start);
+    if end <= a {
+        return &sheet[..0];
     }
+    &sheet[a..end]
 }
 
 // A record's own bytes, by its number: a part of the sheet. Empty for a refused sheet, or a number not below the
