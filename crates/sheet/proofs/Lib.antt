@@ -4,6 +4,7 @@ pub mod Named
 pub mod Longest
 pub mod Theorems
 pub mod Rests
+pub mod Passed
 pub mod Readings
 pub mod Called
 pub mod Nexts

@@ -35,7 +35,7 @@ use denote.Triple.Call.{calls-from}
 use denote.Triple.Clauses.{Ended, Clauses, closing, ensured, lasts}
 use denote.Triple.Spec.{Meets, tripleOf}
 use denote.Triple.Statement.{Contract, Triple}
-use denote.Triple.Walked.{says, Stays, stay-ref, walkOf, goes-ref, Walks, ends-at, walked, walk-meets}
+use denote.Triple.Walked.{says, Stays, stay-ref, walkOf, goes-ref, ends-at, walked, walk-meets}
 use Rattle.fields.specs.declared.numbers.Cursor.{Cursor}
 use Rattle.fields.proofs.numbers.Cursor as K
 use Rattle.fields.proofs.numbers.Cursor.Laws as K′
@@ -229,20 +229,14 @@ module _ {M : Type 1} (𝓤 : URA M) (H : Heap 𝓤) (A : Atoms 𝓤) (S : Rattl
             move ! (10 ∷ 11 ∷ []) $ free1 ! $ move ! (8 ∷ 9 ∷ []) $ free1 ! $ move ! (6 ∷ 7 ∷ []) $ free1 ! $ free0 ! $
             keep ! (0 ∷ 1 ∷ 2 ∷ 3 ∷ 4 ∷ []) $ by ! (exits u))))))))))))
 
-    next-walks : (C : Calls 𝓤 H) (Λ : Loops 𝓤 H) → FmC 𝓤 H (W .laws) C → (g e : Name) → Triple 𝓤 (C g) Read
-        → Triple 𝓤 (C e) (End 𝓤 H A S ends)
-        → Walks 𝓤 H A (nextEnded S) stayed (WpFn 𝓤 H C Λ (next τ g e)) nextClauses
-    next-walks C Λ fm g e known-read known-end =
-        walked 𝓤 H A (nextEnded S) stayed nextClauses (WpFn 𝓤 H C Λ (next τ g e)) (λ κs. (ptr-vals, tt))
-        (λ κs. (mut-tells (named 0) (κs .0) (row (κs .1 .0)), tt))
-        (λ κs qs bounds a _ are. via 𝓤 _ (fst∗ 𝓤 _ (emp 𝓤))
-        (walk (κs .0) (κs .1 .0) (qs .0) (qs .1 .0) bounds (a .0 .ptr .0) (a .0 .ptr .1) (a .0 .name) (a .0 .now) C Λ fm
-        g e known-read known-end))
-
     pub next-meets : (𝓣 : Tables 𝓤 H) (g e : Name) → Triple 𝓤 (𝓣 .C g) Read → Triple 𝓤 (𝓣 .C e) (End 𝓤 H A S ends)
         → Meets 𝓤 H A (nextEnded S .signature) (WpFn 𝓤 H (𝓣 .C) (𝓣 .Λ) (next τ g e))
         (closing 𝓤 H A (nextEnded S) nextClauses)
     next-meets 𝓣 g e known-read known-end =
         walk-meets 𝓤 H A (nextEnded S) stayed W (goes-ref 𝓤 H A W 2 0 tt behind, tt) nextClauses
         (WpFn 𝓤 H (𝓣 .C) (𝓣 .Λ) (next τ g e)) (WpFn-mono 𝓤 H (W .laws) 𝓣 (next τ g e))
-        (next-walks (𝓣 .C) (𝓣 .Λ) (fmOf 𝓤 H (W .laws) 𝓣) g e known-read known-end)
+        (walked 𝓤 H A (nextEnded S) stayed nextClauses (WpFn 𝓤 H (𝓣 .C) (𝓣 .Λ) (next τ g e)) (λ κs. (ptr-vals, tt))
+        (λ κs. (mut-tells (named 0) (κs .0) (row (κs .1 .0)), tt))
+        (λ κs qs bounds a _ are. via 𝓤 _ (fst∗ 𝓤 _ (emp 𝓤))
+        (walk (κs .0) (κs .1 .0) (qs .0) (qs .1 .0) bounds (a .0 .ptr .0) (a .0 .ptr .1) (a .0 .name) (a .0 .now)
+        (𝓣 .C) (𝓣 .Λ) (fmOf 𝓤 H (W .laws) 𝓣) g e known-read known-end)))

@@ -36,7 +36,7 @@ use denote.Triple.Clauses.{Ended, Clauses, closing, ensured, lasts}
 use denote.Triple.Entry.{Args, Vals}
 use denote.Triple.Spec.{Meets, tripleOf}
 use denote.Triple.Statement.{Contract, Triple}
-use denote.Triple.Walked.{says, Stays, stay-ref, stay-none, walkOf, goes-ref, goes-none, Walks, ends-at, walked, walk-meets}
+use denote.Triple.Walked.{says, Stays, stay-ref, stay-none, walkOf, goes-ref, goes-none, ends-at, walked, walk-meets}
 use Rattle.fields.specs.declared.numbers.Cursor.{Cursor}
 use Rattle.fields.proofs.numbers.Cursor as K
 use Rattle.fields.proofs.numbers.Cursor.Laws as K′
@@ -243,16 +243,6 @@ module _ {M : Type 1} (𝓤 : URA M) (H : Heap 𝓤) (A : Atoms 𝓤) (S : Rattl
             move ! (12 ∷ 13 ∷ []) $ free1 ! $ move ! (10 ∷ 11 ∷ []) $ free1 ! $ move ! (8 ∷ 9 ∷ []) $ free1 ! $
             move ! (6 ∷ 7 ∷ []) $ free1 ! $ free0 ! $ keep ! (0 ∷ 1 ∷ 2 ∷ 3 ∷ 4 ∷ 5 ∷ []) $ by ! (exits u)))))))))))))
 
-    next-over-walks : (C : Calls 𝓤 H) (Λ : Loops 𝓤 H) → FmC 𝓤 H (W .laws) C → (g e : Name) → Triple 𝓤 (C g) ReadOver
-        → Triple 𝓤 (C e) (End 𝓤 H A S ends)
-        → Walks 𝓤 H A (nextOverEnded S) stayed (WpFn 𝓤 H C Λ (nextOver τ g e)) nextOverClauses
-    next-over-walks C Λ fm g e known-read known-end =
-        walked 𝓤 H A (nextOverEnded S) stayed nextOverClauses (WpFn 𝓤 H C Λ (nextOver τ g e)) (λ κs. (ptr-vals, (uint-vals w8, tt)))
-        (λ κs. (mut-tells (named 0) (κs .0) (row (κs .1 .0)), (uint-tells w8, tt)))
-        (λ κs qs bounds a _ are. via 𝓤 _ (fst∗ 𝓤 _ (emp 𝓤))
-        (walk (κs .0) (κs .1 .0) (qs .0) (qs .1 .0) bounds (a .0 .ptr .0) (a .0 .ptr .1) (a .0 .name) (a .0 .now)
-        (a .1 .0) (are .1 .0 .1) C Λ fm g e known-read known-end))
-
     pub next-over-meets : (𝓣 : Tables 𝓤 H) (g e : Name) → Triple 𝓤 (𝓣 .C g) ReadOver → Triple 𝓤 (𝓣 .C e) (End 𝓤 H A S ends)
         → Meets 𝓤 H A (nextOverEnded S .signature) (WpFn 𝓤 H (𝓣 .C) (𝓣 .Λ) (nextOver τ g e))
         (closing 𝓤 H A (nextOverEnded S) nextOverClauses)
@@ -260,4 +250,9 @@ module _ {M : Type 1} (𝓤 : URA M) (H : Heap 𝓤) (A : Atoms 𝓤) (S : Rattl
         walk-meets 𝓤 H A (nextOverEnded S) stayed W
         (goes-ref 𝓤 H A W 2 0 tt behind, (goes-none 𝓤 H A W 2 (λ _. u8) yes (λ κs y f. refl), tt)) nextOverClauses
         (WpFn 𝓤 H (𝓣 .C) (𝓣 .Λ) (nextOver τ g e)) (WpFn-mono 𝓤 H (W .laws) 𝓣 (nextOver τ g e))
-        (next-over-walks (𝓣 .C) (𝓣 .Λ) (fmOf 𝓤 H (W .laws) 𝓣) g e known-read known-end)
+        (walked 𝓤 H A (nextOverEnded S) stayed nextOverClauses (WpFn 𝓤 H (𝓣 .C) (𝓣 .Λ) (nextOver τ g e))
+        (λ κs. (ptr-vals, (uint-vals w8, tt)))
+        (λ κs. (mut-tells (named 0) (κs .0) (row (κs .1 .0)), (uint-tells w8, tt)))
+        (λ κs qs bounds a _ are. via 𝓤 _ (fst∗ 𝓤 _ (emp 𝓤))
+        (walk (κs .0) (κs .1 .0) (qs .0) (qs .1 .0) bounds (a .0 .ptr .0) (a .0 .ptr .1) (a .0 .name) (a .0 .now)
+        (a .1 .0) (are .1 .0 .1) (𝓣 .C) (𝓣 .Λ) (fmOf 𝓤 H (W .laws) 𝓣) g e known-read known-end)))

@@ -41,7 +41,7 @@ use denote.Triple.Entry.{Args, Vals, onEntry}
 use denote.Triple.Spec.{Meets, tripleOf}
 use denote.Triple.Statement.{Contract, Triple}
 use denote.Triple.Table.{entered, cited}
-use denote.Triple.Walked.{says, Stays, stay-none, stay-none-slice, walkOf, goes-none, goes-none-slice, Walks, ends-at}
+use denote.Triple.Walked.{says, Stays, stay-none, stay-none-slice, walkOf, goes-none, goes-none-slice, ends-at}
 use denote.Triple.Walked.{walked, walk-meets}
 use Rattle.fields.specs.declared.numbers.Cursor.{Cursor}
 use Rattle.fields.specs.declared.refusals.Place.{Place}
@@ -282,20 +282,6 @@ module _ {M : Type 1} (𝓤 : URA M) (H : Heap 𝓤) (A : Atoms 𝓤) (W : Given
         move ! (12 ∷ 13 ∷ []) $ free1 ! $ move ! (2 ∷ 11 ∷ []) $ free1 ! $ move ! (8 ∷ 9 ∷ []) $ free1 ! $
         move ! (6 ∷ 7 ∷ []) $ free1 ! $ move ! (4 ∷ 5 ∷ []) $ free1 ! $ free0 ! $ by ! (exits y))))))))))))))))))))
 
-module _ {M : Type 1} (𝓤 : URA M) (H : Heap 𝓤) (A : Atoms 𝓤) (W : Given 𝓤 H A) (mem : Memory → SProp 𝓤)
-    (run : Routine → Fun 𝓤) where
-  behind-record-walks : (C : Calls 𝓤 H) (Λ : Loops 𝓤 H) → FmC 𝓤 H (W .laws) C
-      → Triple 𝓤 (C #start) (Start 𝓤 H A mem run) → Triple 𝓤 (C #next-record) (NextRecord 𝓤 H A mem run)
-      → Triple 𝓤 (C #offset) (Offset 𝓤 H A mem run)
-      → Walks 𝓤 H A behind-record.ended stayed (WpFn 𝓤 H C Λ code.function) (behind-record.clauses 𝓤 H A mem run)
-  behind-record-walks C Λ fm known-start known-next known-offset =
-      walked 𝓤 H A behind-record.ended stayed (behind-record.clauses 𝓤 H A mem run) (WpFn 𝓤 H C Λ code.function)
-      (λ κs. (slice-vals, (uint-vals w8, (LL.vals K.the-type K′.the-laws, tt))))
-      (λ κs. (shr-slice-tells (named 0) (κs .0) u8, (uint-tells w8, (LL.tells K.the-type K′.the-laws, tt))))
-      (λ κs qs bounds a g are. via 𝓤 _ (fst∗ 𝓤 _ (emp 𝓤))
-      (walk 𝓤 H A W mem run (κs .0) (qs .0) (a .0) (a .1 .0) (are .1 .0 .1) (a .1 .1 .0) C Λ fm known-start known-next
-      known-offset (are .0) (are .1 .1 .0)))
-
 behind-record-meets : {M : Type 1} (𝓤 : URA M) (H : Heap 𝓤) (A : Atoms 𝓤) → Given 𝓤 H A → (mem : Memory → SProp 𝓤)
     (run : Routine → Fun 𝓤) (𝓣 : Tables 𝓤 H) → Triple 𝓤 (𝓣 .C #start) (Start 𝓤 H A mem run)
     → Triple 𝓤 (𝓣 .C #next-record) (NextRecord 𝓤 H A mem run) → Triple 𝓤 (𝓣 .C #offset) (Offset 𝓤 H A mem run)
@@ -303,11 +289,20 @@ behind-record-meets : {M : Type 1} (𝓤 : URA M) (H : Heap 𝓤) (A : Atoms �
 behind-record-meets 𝓤 H A W mem run 𝓣 known-start known-next known-offset =
     walk-meets 𝓤 H A behind-record.ended stayed W (
       goes-none-slice 𝓤 H A W 1 (0 ∷ []) tt (plain (λ _. u8)) yes,
-      (goes-none 𝓤 H A W 1 (λ _. u8) yes (λ κs x f. refl), (goes-none 𝓤 H A W 1 (λ _. K.the-row) yes (λ κs x f. refl), tt)),
+      (
+        goes-none 𝓤 H A W 1 (λ _. u8) yes (λ κs x f. refl),
+        (goes-none 𝓤 H A W 1 (λ _. K.the-row) yes (λ κs x f. refl), tt),
+      ),
     )
     (behind-record.clauses 𝓤 H A mem run) (WpFn 𝓤 H (𝓣 .C) (𝓣 .Λ) code.function)
     (WpFn-mono 𝓤 H (W .laws) 𝓣 code.function)
-    (behind-record-walks 𝓤 H A W mem run (𝓣 .C) (𝓣 .Λ) (fmOf 𝓤 H (W .laws) 𝓣) known-start known-next known-offset)
+    (walked 𝓤 H A behind-record.ended stayed (behind-record.clauses 𝓤 H A mem run)
+    (WpFn 𝓤 H (𝓣 .C) (𝓣 .Λ) code.function)
+    (λ κs. (slice-vals, (uint-vals w8, (LL.vals K.the-type K′.the-laws, tt))))
+    (λ κs. (shr-slice-tells (named 0) (κs .0) u8, (uint-tells w8, (LL.tells K.the-type K′.the-laws, tt))))
+    (λ κs qs bounds a g are. via 𝓤 _ (fst∗ 𝓤 _ (emp 𝓤))
+    (walk 𝓤 H A W mem run (κs .0) (qs .0) (a .0) (a .1 .0) (are .1 .0 .1) (a .1 .1 .0) (𝓣 .C) (𝓣 .Λ)
+    (fmOf 𝓤 H (W .laws) 𝓣) known-start known-next known-offset (are .0) (are .1 .1 .0))))
 
 pub behind-record-spec : {M : Type 1} → stated.statement M
 unfolding code.routine tablesOf

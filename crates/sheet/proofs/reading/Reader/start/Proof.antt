@@ -31,7 +31,7 @@ use denote.Struct.Rest.{own-shut}
 use denote.Triple.Entry.{Vals, onEntry}
 use denote.Triple.Spec.{Meets, tripleOf}
 use denote.Triple.Table.{entered}
-use denote.Triple.Walked.{says, Stays, stay-none, stay-none-slice, walkOf, goes-none, goes-none-slice, Walks, ends-at}
+use denote.Triple.Walked.{says, Stays, stay-none, stay-none-slice, walkOf, goes-none, goes-none-slice, ends-at}
 use denote.Triple.Walked.{walked, walk-meets}
 use denote.Exit.{yes}
 use Rattle.fields.specs.declared.numbers.Cursor.{Cursor}
@@ -64,7 +64,9 @@ module _ {M : Type 1} (𝓤 : URA M) (H : Heap 𝓤) (A : Atoms 𝓤) (W : Given
   at = (v ∷ [], (K′.lowered c ∷ [], tt))
 
   abbrev Post : Val → SProp 𝓤
-  Post = walkOf 𝓤 H A start.ended stayed (start.clauses 𝓤 H A mem run) .post (((κ, tt), (q, tt), tt, (s, (c, tt)), at), tt)
+  Post =
+      walkOf 𝓤 H A start.ended stayed (start.clauses 𝓤 H A mem run) .post
+      (((κ, tt), (q, tt), tt, (s, (c, tt)), at), tt)
 
   abbrev Own : Fml
   Own = ShrSlice (named 0) κ u8 .own s (v ∷ [])
@@ -100,17 +102,6 @@ module _ {M : Type 1} (𝓤 : URA M) (H : Heap 𝓤) (A : Atoms 𝓤) (W : Given
         returns ! (look ! 4 refl) $ forget ! 0 refl $ forget ! 2 refl $ forget ! 4 refl $
         move ! (4 ∷ 5 ∷ []) $ free1 ! $ move ! (2 ∷ 3 ∷ []) $ free1 ! $ free1 ! $ free0 ! $ by ! (exits is))))
 
-module _ {M : Type 1} (𝓤 : URA M) (H : Heap 𝓤) (A : Atoms 𝓤) (W : Given 𝓤 H A) (mem : Memory → SProp 𝓤)
-    (run : Routine → Fun 𝓤) where
-  start-walks : (C : Calls 𝓤 H) (Λ : Loops 𝓤 H)
-      → Walks 𝓤 H A start.ended stayed (WpFn 𝓤 H C Λ code.function) (start.clauses 𝓤 H A mem run)
-  start-walks C Λ =
-      walked 𝓤 H A start.ended stayed (start.clauses 𝓤 H A mem run) (WpFn 𝓤 H C Λ code.function)
-      (λ κs. (slice-vals, (LL.vals K.the-type K′.the-laws, tt)))
-      (λ κs. (shr-slice-tells (named 0) (κs .0) u8, (LL.tells K.the-type K′.the-laws, tt)))
-      (λ κs qs bounds a g are. via 𝓤 _ (fst∗ 𝓤 _ (emp 𝓤))
-      (walk 𝓤 H A W mem run (κs .0) (qs .0) (a .0) (a .1 .0) C Λ (are .0) (are .1 .0)))
-
 start-meets : {M : Type 1} (𝓤 : URA M) (H : Heap 𝓤) (A : Atoms 𝓤) → Given 𝓤 H A → (mem : Memory → SProp 𝓤)
     (run : Routine → Fun 𝓤) (𝓣 : Tables 𝓤 H)
     → Meets 𝓤 H A start.signature (WpFn 𝓤 H (𝓣 .C) (𝓣 .Λ) code.function) (start.spec 𝓤 H A mem run)
@@ -119,8 +110,12 @@ start-meets 𝓤 H A W mem run 𝓣 =
       goes-none-slice 𝓤 H A W 1 (0 ∷ []) tt (plain (λ _. u8)) yes,
       (goes-none 𝓤 H A W 1 (λ _. K.the-row) yes (λ κs x f. refl), tt),
     )
-    (start.clauses 𝓤 H A mem run) (WpFn 𝓤 H (𝓣 .C) (𝓣 .Λ) code.function)
-    (WpFn-mono 𝓤 H (W .laws) 𝓣 code.function) (start-walks 𝓤 H A W mem run (𝓣 .C) (𝓣 .Λ))
+    (start.clauses 𝓤 H A mem run) (WpFn 𝓤 H (𝓣 .C) (𝓣 .Λ) code.function) (WpFn-mono 𝓤 H (W .laws) 𝓣 code.function)
+    (walked 𝓤 H A start.ended stayed (start.clauses 𝓤 H A mem run) (WpFn 𝓤 H (𝓣 .C) (𝓣 .Λ) code.function)
+    (λ κs. (slice-vals, (LL.vals K.the-type K′.the-laws, tt)))
+    (λ κs. (shr-slice-tells (named 0) (κs .0) u8, (LL.tells K.the-type K′.the-laws, tt)))
+    (λ κs qs bounds a g are. via 𝓤 _ (fst∗ 𝓤 _ (emp 𝓤))
+    (walk 𝓤 H A W mem run (κs .0) (qs .0) (a .0) (a .1 .0) (𝓣 .C) (𝓣 .Λ) (are .0) (are .1 .0))))
 
 pub start-spec : {M : Type 1} → stated.statement M
 unfolding code.routine tablesOf
