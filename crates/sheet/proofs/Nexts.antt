@@ -14,21 +14,22 @@ use base.Logic.{SProp, ent, emp, exE, snd∗, via, fst∗}
 use base.Fml.{Lft, Share, GName, ftrue, fat, flft, fobs, fbor}
 use prog.Wp.{Heap, Calls, Loops, WpFn, Tables}
 use ghost.Atoms.{Atoms, sem}
-use contract.Lifetimes.{Outlives, AllOutlive}
+use contract.Lifetimes.{AllOutlive}
 use contract.Monad.{fact}
-use types.Kit.{Given, Item, mean, ‵, _⊛_, ⋆, _$_, _∵_, !, qed, by, move, keep, drop, split, join, rewrite, fsplit, fsplit3}
+use types.Kit.{Given, Item, mean, ‵, _⊛_, ⋆, _$_, _∵_, !, qed, by, move, keep, drop, split, join, rewrite, fsplit}
+use types.Kit.{fsplit3}
 use types.Kit.{fjoin, fjoin3, feqI, suffices, frame, done}
 use types.Part.{whole, sub, look-in, store-in}
 use types.Run.{look, init, store, forget, stop, hop, fld, from, load, of-opd, and-then, no-more, assigns, land, returns}
 use types.Run.{enter, alloc1, alloc0, params1, pass1, pass0, free1, free0}
 use sound.WpLaws.{FmC, fmOf, WpFn-mono}
 use denote.RattleType.{RattleType, owns}
-use denote.Laws.{Is, shows, Makes}
+use denote.Laws.{Is, Makes}
 use denote.Memory.{pointee}
 use denote.Builtin.{u8}
 use denote.Exit.{yes}
 use denote.Ref.{RefT, MutRef, ptr-vals, mut-tells}
-use denote.Signature.{Slot, plain, namedLft, shrSliceOf, mutRefTo}
+use denote.Signature.{plain, shrSliceOf, mutRefTo}
 use denote.Steps.{only, owned, nothing}
 use denote.Struct.Laws as LL
 use denote.Triple.Call.{calls-from}
@@ -42,7 +43,8 @@ use Rattle.fields.proofs.numbers.Cursor.Laws as K′
 use Rattle.sheet.specs.Readings.{bytesOf, moved}
 use Rattle.sheet.specs.declared.reading.Reader.{Reader}
 use Rattle.sheet.proofs.Called.{Behind, found-behind, End, Handed, SaidEnd, said-end, end-called}
-use Rattle.sheet.proofs.Readings.{row, OwnFields, Lies, slice, sheetVal, nextVal, cursor-typed, sheet-typed}
+use Rattle.sheet.proofs.Readings.{copies, row, OwnFields, Lies, slice, sheetVal, nextVal, cursor-typed}
+use Rattle.sheet.proofs.Readings.{sheet-typed}
 use Rattle.sheet.proofs.Readings.{held, next-is, behind, outlive, opens-reading, keeps-reading, closes-reading}
 use Rattle.sheet.proofs.reading.Reader.Laws as T′
 
@@ -169,18 +171,19 @@ module _ {M : Type 1} (𝓤 : URA M) (H : Heap 𝓤) (A : Atoms 𝓤) (S : Rattl
       exits u =
           qed W (AtExit u) ∵
           suffices ! _ (ends-at 𝓤 H A (nextEnded S) stayed nextClauses W
-          (((κ, (κ′, tt)), (q, (q′, tt)), bounds, (x, tt), (vptr b o ∷ [], tt)), tt) u found (moved h end, tt) (tt, tt)) $
+          (((κ, (κ′, tt)), (q, (q′, tt)), bounds, (x, tt), (vptr b o ∷ [], tt)), tt) u found
+          (moved h end, tt) (tt, tt)) $
           says ! (refl, refl) $ move ! (2 ∷ 4 ∷ []) $ join ! $ frame ! $
-          feqI ! (List Val) (vptr b o ∷ []) (vptr b o ∷ []) refl $ fjoin3 ! $ nothing ! $ move ! (1 ∷ 0 ∷ []) $ fjoin ! $
-          done !
+          feqI ! (List Val) (vptr b o ∷ []) (vptr b o ∷ []) refl $ fjoin3 ! $
+          nothing ! $ move ! (1 ∷ 0 ∷ []) $ fjoin ! $ done !
 
       abbrev AtEntry : List (Item 𝓤)
       AtEntry =
           (‵ (flft κ q) ⊛ ‵ (flft κ′ q′) ⊛ ‵ ftrue)
           ∷ ‵ (owns (MutRef (named 0) κ (row κ′) ∷ []) (x, tt) (vptr b o ∷ [], tt)) ∷ []
 
-      module _ (C : Calls 𝓤 H) (Λ : Loops 𝓤 H) (fm : FmC 𝓤 H (W .laws) C) (g e : Name) (known-read : Triple 𝓤 (C g) Read)
-          (known-end : Triple 𝓤 (C e) (End 𝓤 H A S ends)) where
+      module _ (C : Calls 𝓤 H) (Λ : Loops 𝓤 H) (fm : FmC 𝓤 H (W .laws) C) (g e : Name)
+          (known-read : Triple 𝓤 (C g) Read) (known-end : Triple 𝓤 (C e) (End 𝓤 H A S ends)) where
         walk : ent 𝓤 (⋆ 𝓤 H A AtEntry) (WpFn 𝓤 H C Λ (next τ g e) (vptr b o ∷ []) Post)
         walk =
             qed W AtEntry ∵ enter ! C Λ (next τ g e) (vptr b o ∷ []) _ $
@@ -199,8 +202,8 @@ module _ {M : Type 1} (𝓤 : URA M) (H : Heap 𝓤) (A : Atoms 𝓤) (S : Rattl
             move ! (1 ∷ []) $ keeps-reading ! (held κ′) h $ move ! (6 ∷ 0 ∷ []) $ join ! $
             calls-from ! fm HandedFields (sheetVal h ∷ nextVal h ∷ []) (λ u. mean 𝓤 H A (Behind S token SaidFound u))
             (via 𝓤 (Read .pre to-read) asked (known-read to-read))
-            (and-then ! (load ! (from ! (stop !)) (look ! 11 refl)) (and-then ! (load ! (from ! (stop !)) (look ! 9 refl))
-            (no-more !))) (λ u. found-behind ! tt S token found SaidFound said-found u (λ is-found.
+            (and-then ! (copies ! 11 refl) (and-then ! (copies ! 9 refl) (no-more !)))
+            (λ u. found-behind ! tt S token found SaidFound said-found u (λ is-found.
             -- [what was found; the token; what the reading owns; its cell; the open borrow; obs; auth; …; _5; …]
             land ! (from ! (stop !)) (init ! 14 refl (typed found u is-found)) $
             assigns ! (of-opd ! (load ! (from ! (hop ! (look ! 16 refl) (fld ! refl (stop !))))
@@ -210,16 +213,16 @@ module _ {M : Type 1} (𝓤 : URA M) (H : Heap 𝓤) (A : Atoms 𝓤) (S : Rattl
             calls-from ! fm (Handed 𝓤 H A S ends found (h .next) u) (u ∷ nextVal h ∷ [])
             (λ w. mean 𝓤 H A (Behind K.the-row (‵ ftrue) (SaidEnd 𝓤 H A S ends found (h .next)) w))
             (end-called 𝓤 H A S ends found (h .next) W C e known-end u)
-            (and-then ! (load ! (from ! (stop !)) (look ! 15 refl)) (and-then ! (load ! (from ! (stop !)) (look ! 9 refl))
-            (no-more !))) (λ w. found-behind ! tt K.the-row (‵ ftrue) end (SaidEnd 𝓤 H A S ends found (h .next))
+            (and-then ! (copies ! 15 refl) (and-then ! (copies ! 9 refl) (no-more !)))
+            (λ w. found-behind ! tt K.the-row (‵ ftrue) end (SaidEnd 𝓤 H A S ends found (h .next))
             (said-end 𝓤 H A S ends found (h .next)) w (λ is-end. drop ! $ drop ! $
             let end-lowers = LL.tells K.the-type K′.the-laws end (w ∷ []) is-end in
             let end-lowered = subst (Is K.the-row end) end-lowers is-end in
             land ! (from ! (stop !)) (store ! 10 refl (cursor-typed 𝓤 H A W end w is-end)) $
             rewrite ! 10 (λ (y : Val). ‵ (fat fullShare K′.mir l₄ 0 y)) (ap only end-lowers) refl $
-            assigns ! (of-opd ! (load ! (from ! (stop !)) (look ! 10 refl))) (from ! (hop ! (look ! 16 refl)
+            assigns ! (of-opd ! (copies ! 10 refl)) (from ! (hop ! (look ! 16 refl)
             (fld ! refl (stop !)))) (store-in ! 3 (sub ! 1 refl (whole !)) (cursor-typed 𝓤 H A W end _ end-lowered)) $
-            assigns ! (of-opd ! (load ! (from ! (stop !)) (look ! 14 refl))) (from ! (stop !))
+            assigns ! (of-opd ! (copies ! 14 refl)) (from ! (stop !))
             (init ! 18 refl (typed found u is-found)) $
             move ! (3 ∷ 2 ∷ 4 ∷ 5 ∷ 6 ∷ []) $ closes-reading ! tt κ κ′ q γ b o h end end-lowered $
             -- [obs; the borrow; its token; what was found; the sheet's token; …; _5; …]

@@ -30,7 +30,7 @@ next-question-spec 𝓤 H 𝓜 𝓖 𝓡 =
     (next-over-meets 𝓤 H A S.the-row questionAt questionEnd W S′.mir (EL.makes S.the-type S′.the-plain 𝓤 H A)
     (λ r u is. EL.lawful S.the-type S′.the-laws 𝓤 H A W tt .typed r _ is .0)
     (tablesOf 𝓤 H 𝓜 (tables 𝓤 H 𝓜 𝓡 code.env)) #read #end
-    (cited 𝓤 H (ReadOver 𝓤 H A S.the-row questionAt questionEnd) 𝓜 𝓡 code.env #read read-def.routine code.calls-items·read-question
-    (read-thm.met 𝓤 H 𝓜 𝓖 𝓡))
-    (cited 𝓤 H (End 𝓤 H A S.the-row questionEnd) 𝓜 𝓡 code.env #end end-def.routine code.calls-sheet·reading·question-end
-    (end-thm.met 𝓤 H 𝓜 𝓖 𝓡)))
+    (cited 𝓤 H (ReadOver 𝓤 H A S.the-row questionAt questionEnd) 𝓜 𝓡 code.env #read read-def.routine
+    code.calls-items·read-question (read-thm.met 𝓤 H 𝓜 𝓖 𝓡))
+    (cited 𝓤 H (End 𝓤 H A S.the-row questionEnd) 𝓜 𝓡 code.env #end end-def.routine
+    code.calls-sheet·reading·question-end (end-thm.met 𝓤 H 𝓜 𝓖 𝓡)))

@@ -32,7 +32,7 @@ use Rattle.sheet.specs.Readings.{bytesOf}
 use Rattle.sheet.specs.declared.reading.Reader.{Reader}
 use Rattle.sheet.proofs.Called.{Behind, told-behind}
 use Rattle.sheet.proofs.Passed.{named-a, token, AtEntry, Typed, Post, exits, passed-meets}
-use Rattle.sheet.proofs.Readings.{OwnFields, sheetVal, nextVal, keeps-reading}
+use Rattle.sheet.proofs.Readings.{copies, OwnFields, sheetVal, nextVal, keeps-reading}
 use Rattle.sheet.proofs.reading.Reader.Laws as T′
 use Rattle.sheet.proofs.reading.rest_from as rest-from
 use Rattle.sheet.proofs.reading.rest_from.Symbol as rest-from-def
@@ -93,9 +93,9 @@ module _ {M : Type 1} (𝓤 : URA M) (H : Heap 𝓤) (A : Atoms 𝓤) (mem : Mem
         calls-from ! fm (Handed W κ q h) (sheetVal h ∷ nextVal h ∷ [])
         (λ u. mean 𝓤 H A (Behind (Result (κ, tt)) (token 𝓤 κ q h) (Said W κ q h) u))
         (via 𝓤 (RestFrom .pre (to W κ q h)) (asked W κ q h) (known (to W κ q h)))
-        (and-then ! (load ! (from ! (stop !)) (look ! 5 refl)) (and-then ! (load ! (from ! (stop !)) (look ! 3 refl))
-        (no-more !)))
-        (λ u. told-behind ! tt (Result (κ, tt)) (token 𝓤 κ q h) (Says (κ, tt) h) (Said W κ q h) (said W κ q h) u (λ r p is.
+        (and-then ! (copies ! 5 refl) (and-then ! (copies ! 3 refl) (no-more !)))
+        (λ u. told-behind ! tt (Result (κ, tt)) (token 𝓤 κ q h) (Says (κ, tt) h) (Said W κ q h) (said W κ q h) u
+        (λ r p is.
         -- [the result; the token; what the reading owns; …; _3; …]
         land ! (from ! (stop !)) (init ! 10 refl (shr-slice-lawful 𝓤 H A W (named 0) κ u8 .typed r (u ∷ []) is .0)) $
         returns ! (look ! 10 refl) $ forget ! 4 refl $ forget ! 6 refl $ forget ! 8 refl $ forget ! 10 refl $
