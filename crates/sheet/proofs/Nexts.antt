@@ -14,7 +14,7 @@ use base.Logic.{SProp, ent, emp, exE, snd∗, via, fst∗}
 use base.Fml.{Lft, Share, GName, ftrue, fat, flft, fobs, fbor}
 use prog.Wp.{Heap, Calls, Loops, WpFn, Tables}
 use ghost.Atoms.{Atoms, sem}
-use contract.Lifetimes.{AllOutlive}
+use contract.Lifetimes.{Lfts, AllOutlive}
 use contract.Monad.{fact}
 use types.Kit.{Given, Item, mean, ‵, _⊛_, ⋆, _$_, _∵_, !, qed, by, move, keep, drop, split, join, rewrite, fsplit}
 use types.Kit.{fsplit3}
@@ -33,16 +33,17 @@ use denote.Signature.{plain, shrSliceOf, mutRefTo}
 use denote.Steps.{only, owned, nothing}
 use denote.Struct.Laws as LL
 use denote.Triple.Call.{calls-from}
-use denote.Triple.Clauses.{Ended, Clauses, closing, ensured, lasts}
+use denote.Triple.Clauses.{Ended, Clauses, closing, ensured, lasts, atExit, AtExit as Seen}
+use denote.Triple.Entry.{Args}
 use denote.Triple.Spec.{Meets, tripleOf}
 use denote.Triple.Statement.{Contract, Triple}
-use denote.Triple.Walked.{says, Stays, stay-ref, walkOf, goes-ref, ends-at, walked, walk-meets}
+use denote.Triple.Walked.{Stays, stay-ref, walkOf, goes-ref, ends-at, walked, walk-meets}
 use Rattle.fields.specs.declared.numbers.Cursor.{Cursor}
 use Rattle.fields.proofs.numbers.Cursor as K
 use Rattle.fields.proofs.numbers.Cursor.Laws as K′
 use Rattle.sheet.specs.Readings.{bytesOf, moved}
 use Rattle.sheet.specs.declared.reading.Reader.{Reader}
-use Rattle.sheet.proofs.Called.{Behind, found-behind, End, Handed, SaidEnd, said-end, end-called}
+use Rattle.sheet.proofs.Called.{claims, Behind, found-behind, End, Handed, SaidEnd, said-end, end-called}
 use Rattle.sheet.proofs.Readings.{copies, row, OwnFields, Lies, slice, sheetVal, nextVal, cursor-typed}
 use Rattle.sheet.proofs.Readings.{sheet-typed}
 use Rattle.sheet.proofs.Readings.{held, next-is, behind, outlive, opens-reading, keeps-reading, closes-reading}
@@ -106,24 +107,24 @@ module _ {M : Type 1} (𝓤 : URA M) (H : Heap 𝓤) (A : Atoms 𝓤) (S : Rattl
         ensures = λ _ r at. fact 𝓤 (r ≡ finds (a .0 .now) (a .1 .0));
       }
 
-  abbrev pub nextClauses : Clauses 𝓤 (nextEnded S)
-  nextClauses κs a =
-      record {
-        ghost = Unit {0};
-        requires = λ _. emp 𝓤;
-        ensures = λ _ r at.
-            fact 𝓤 ((r ≡ finds (bytesOf (a .0 .now)) (a .0 .now .next))
-            × (at .0 .now ≡ moved (a .0 .now) (ends r (a .0 .now .next))));
-      }
-
   abbrev pub Read : Contract 𝓤
   Read = tripleOf 𝓤 H A (readEnded S .signature) (closing 𝓤 H A (readEnded S) readClauses)
 
   abbrev stayed : Stays (nextEnded S .signature .params) (nextEnded S .kept)
   stayed = (stay-ref (0 ∷ []) tt behind, tt)
 
+  -- Says is what the contract says of the arguments, of the result and of what is left at exit
   module _ (W : Given 𝓤 H A) (τ : Ty) (makes : Makes 𝓤 H A S (Is S))
-      (typed : (r : S .Denot) (u : Val) → Is S r (u ∷ []) → Holds (hasTy τ u) × WT u) where
+      (typed : (r : S .Denot) (u : Val) → Is S r (u ∷ []) → Holds (hasTy τ u) × WT u)
+      (Says : (κs : Lfts 2) → Args (nextEnded S .signature) κs → S .Denot → Seen (nextEnded S) κs → SProp 𝓤)
+      (said : (κs : Lfts 2) (x : RefT Reader)
+      → ent 𝓤 (emp 𝓤) (Says κs (x, tt) (finds (bytesOf (x .now)) (x .now .next))
+      (atExit (nextEnded S) κs (x, tt)
+      (moved (x .now) (ends (finds (bytesOf (x .now)) (x .now .next)) (x .now .next)), tt)))) where
+    abbrev pub nextClauses : Clauses 𝓤 (nextEnded S)
+    nextClauses κs a =
+        record { ghost = Unit {0}; requires = λ _. emp 𝓤; ensures = λ _ r at. Says κs a r at }
+
     -- κ is the borrow's lifetime, κ′ the sheet's
     module _ (κ κ′ : Lft) (q q′ : Share) (bounds : AllOutlive 2 (outlive ∷ []) (κ, (κ′, tt))) (b o : ℕ) (γ : GName)
         (h : Reader) where
@@ -173,7 +174,7 @@ module _ {M : Type 1} (𝓤 : URA M) (H : Heap 𝓤) (A : Atoms 𝓤) (S : Rattl
           suffices ! _ (ends-at 𝓤 H A (nextEnded S) stayed nextClauses W
           (((κ, (κ′, tt)), (q, (q′, tt)), bounds, (x, tt), (vptr b o ∷ [], tt)), tt) u found
           (moved h end, tt) (tt, tt)) $
-          says ! (refl, refl) $ move ! (2 ∷ 4 ∷ []) $ join ! $ frame ! $
+          claims ! (said (κ, (κ′, tt)) x) $ move ! (2 ∷ 4 ∷ []) $ join ! $ frame ! $
           feqI ! (List Val) (vptr b o ∷ []) (vptr b o ∷ []) refl $ fjoin3 ! $
           nothing ! $ move ! (1 ∷ 0 ∷ []) $ fjoin ! $ done !
 

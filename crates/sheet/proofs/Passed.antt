@@ -11,7 +11,6 @@ use base.Fml.{Lft, Share, ftrue, flft}
 use prog.Wp.{Heap, WpFn, Tables}
 use ghost.Atoms.{Atoms}
 use contract.Lifetimes.{Lfts}
-use contract.Monad.{fact}
 use types.Kit.{Given, Item, ‵, _⊛_, ⋆, _$_, _∵_, !, qed, move, suffices, frame, done}
 use sound.WpLaws.{WpFn-mono}
 use denote.RattleType.{RattleType, owns}
@@ -19,10 +18,12 @@ use denote.Exit.{yes}
 use denote.Ref.{NamedLft}
 use denote.Signature.{plain, namedLft}
 use denote.Struct.Laws as LL
-use denote.Triple.Clauses.{Ended, Clauses, closing}
+use denote.Triple.Clauses.{Ended, Clauses, closing, atExit, AtExit as Seen}
+use denote.Triple.Entry.{Args}
 use denote.Triple.Spec.{Meets}
-use denote.Triple.Walked.{says, Stays, stay-none, walkOf, goes-none, ends-at, walked, walk-meets}
+use denote.Triple.Walked.{Stays, stay-none, walkOf, goes-none, ends-at, walked, walk-meets}
 use Rattle.sheet.specs.declared.reading.Reader.{Reader}
+use Rattle.sheet.proofs.Called.{claims}
 use Rattle.sheet.proofs.reading.Reader as T
 use Rattle.sheet.proofs.reading.Reader.Laws as T′
 
@@ -47,7 +48,7 @@ module _ {M : Type 1} (𝓤 : URA M) (κ : Lft) (q : Share) (h : Reader) where
 abbrev pub Typed : Reader → Type 0
 Typed h = Holds (hasTy (T′.mir (named 0)) (T′.lowered h)) × WT (T′.lowered h)
 
--- R is the type of the result, and Says what the contract says of it
+-- R is the type of the result, and Says what the contract says of it and of the reading
 module _ (R : Lfts 1 → RattleType) where
   abbrev pub passedEnded : Ended
   passedEnded =
@@ -60,10 +61,10 @@ module _ (R : Lfts 1 → RattleType) where
   stayed = (stay-none rowAt yes, tt)
 
   module _ {M : Type 1} (𝓤 : URA M) (H : Heap 𝓤) (A : Atoms 𝓤) (W : Given 𝓤 H A)
-      (Says : (κs : Lfts 1) → Reader → R κs .Denot → Type 0) where
+      (Says : (κs : Lfts 1) → Args (passedEnded .signature) κs → R κs .Denot → Seen passedEnded κs → SProp 𝓤) where
     abbrev pub passedClauses : Clauses 𝓤 passedEnded
     passedClauses κs a =
-        record { ghost = Unit {0}; requires = λ _. emp 𝓤; ensures = λ _ r at. fact 𝓤 (Says κs (a .0) r) }
+        record { ghost = Unit {0}; requires = λ _. emp 𝓤; ensures = λ _ r at. Says κs a r at }
 
     module _ (κ : Lft) (q : Share) (h : Reader) where
       abbrev pub Post : Val → SProp 𝓤
@@ -75,11 +76,13 @@ module _ (R : Lfts 1 → RattleType) where
       abbrev AtExit : R (κ, tt) .Denot → Val → List (Item 𝓤)
       AtExit r u = ‵ (R (κ, tt) .own r (u ∷ [])) ∷ AtEntry 𝓤 κ q h
 
-      pub exits : (r : R (κ, tt) .Denot) (u : Val) → Says (κ, tt) h r → ent 𝓤 (⋆ 𝓤 H A (AtExit r u)) (Post u)
+      pub exits : (r : R (κ, tt) .Denot) (u : Val)
+          → ent 𝓤 (emp 𝓤) (Says (κ, tt) (h, tt) r (atExit passedEnded (κ, tt) (h, tt) (tt, tt)))
+          → ent 𝓤 (⋆ 𝓤 H A (AtExit r u)) (Post u)
       exits r u said =
           qed W (AtExit r u) ∵
           suffices ! _ (ends-at 𝓤 H A passedEnded stayed passedClauses W
-          (((κ, tt), (q, tt), tt, (h, tt), (T′.lowered h ∷ [], tt)), tt) u r (tt, tt) (tt, tt)) $ says ! said $
+          (((κ, tt), (q, tt), tt, (h, tt), (T′.lowered h ∷ [], tt)), tt) u r (tt, tt) (tt, tt)) $ claims ! said $
           move ! (1 ∷ []) $ frame ! $ move ! (1 ∷ []) $ frame ! $ done !
 
     pub passed-meets : (𝓣 : Tables 𝓤 H) (code : Fn)

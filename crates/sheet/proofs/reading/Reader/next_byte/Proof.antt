@@ -1,4 +1,7 @@
 -- The walk of `Nexts`, at `read_byte` and `byte_end`.
+use mathlib.Core.Path.{refl}
+use base.Logic.{emp}
+use contract.Monad.{factI}
 use contract.Running.{givenOf, tables, tablesOf}
 use denote.Enum.Laws as EL
 use denote.Triple.Spec.{tripleOf}
@@ -29,6 +32,8 @@ next-byte-spec 𝓤 H 𝓜 𝓖 𝓡 =
     (tables 𝓤 H 𝓜 𝓡 code.env .C) (tables 𝓤 H 𝓜 𝓡 code.env .Λ) #next-byte code.function (code.unfolded 𝓤 H 𝓜 𝓡)
     (next-meets 𝓤 H A S.the-row byteField byteEnd W S′.mir (EL.makes S.the-type S′.the-plain 𝓤 H A)
     (λ r u is. EL.lawful S.the-type S′.the-laws 𝓤 H A W tt .typed r _ is .0)
+    (λ κs a r at. next-byte.clauses 𝓤 H A (𝓜 .mem) (𝓡 .run) κs a .ensures tt r at)
+    (λ κs x. factI 𝓤 _ (emp 𝓤) (refl, refl))
     (tablesOf 𝓤 H 𝓜 (tables 𝓤 H 𝓜 𝓡 code.env)) #read #end
     (cited 𝓤 H (Read 𝓤 H A S.the-row byteField byteEnd) 𝓜 𝓡 code.env #read read-def.routine
     code.calls-fields·read-byte (read-thm.met 𝓤 H 𝓜 𝓖 𝓡))
