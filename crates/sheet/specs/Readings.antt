@@ -5,10 +5,8 @@ use denote.Ref.{RefT, now}
 use Rattle.fields.specs.declared.fields.ByteRead.{ByteRead}
 use Rattle.fields.specs.declared.fields.WordRead.{WordRead}
 use Rattle.fields.specs.declared.numbers.Cursor.{Cursor}
-use Rattle.fields.specs.Fields.{thenByte, thenWord}
 use Rattle.items.specs.declared.items.ItemRead.{ItemRead}
 use Rattle.items.specs.declared.items.QuestionRead.{QuestionRead}
-use Rattle.items.specs.Items.{thenItem}
 use Rattle.sheet.specs.declared.reading.Reader.{Reader}
 
 abbrev pub bytesOf : Reader → List ℕ
@@ -21,15 +19,18 @@ started s c = record { sheet = s; next = c }
 abbrev pub moved : Reader → Cursor → Reader
 moved r c = started (r .sheet) c
 
--- behind the field where it was read, else where it was looked for
+-- behind what was read, and where it was refused, where it was looked for
 abbrev pub byteEnd : ByteRead → Cursor → Cursor
-byteEnd read from = thenByte read (λ r. from) λ x next. next
+byteEnd (ByteRead.Is field) from = field .next
+byteEnd (ByteRead.Refused r) from = from
 
 abbrev pub wordEnd : WordRead → Cursor → Cursor
-wordEnd read from = thenWord read (λ r. from) λ x next. next
+wordEnd (WordRead.Is field) from = field .next
+wordEnd (WordRead.Refused r) from = from
 
 abbrev pub recordEnd : ItemRead → Cursor → Cursor
-recordEnd read from = thenItem read (λ r. from) λ x next. next
+recordEnd (ItemRead.Is x next) from = next
+recordEnd (ItemRead.Refused r) from = from
 
 abbrev pub questionEnd : QuestionRead → Cursor → Cursor
 questionEnd (QuestionRead.Asks q next) from = next
