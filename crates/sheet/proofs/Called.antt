@@ -10,7 +10,8 @@ use base.Fml.{ftrue}
 use prog.Wp.{Heap, Calls}
 use ghost.Atoms.{Atoms, sem}
 use contract.Monad.{fact}
-use types.Kit.{Goal, prop, Soaks, Seq, Step, step, Given, Item, mean, ‵, raw, some, later, _⊛_, _$_, _∵_, !, qed, move, use1, split, pick}
+use types.Kit.{Goal, prop, Soaks, Seq, Step, step, Given, Item, mean, ‵, raw, some, later, _⊛_, _$_, _∵_, !, qed}
+use types.Kit.{move, use1, split, pick}
 use types.Kit.{rewrite, frame, await, done}
 use denote.RattleType.{RattleType, owns}
 use denote.Laws.{Is, shows}

@@ -12,8 +12,7 @@ use base.Fml.{Lft, Share, GName, fsep, flft, fdead, flent, fres}
 use prog.Wp.{Heap}
 use ghost.Atoms.{Atoms}
 use types.Kit.{Goal, Soaks, Seq, Step, step, Given, Item, ‵, raw, some, later, _⊛_, _$_, move, use1, use2, use3, split}
-use types.Kit.{pick}
-use types.Kit.{fsplit, fjoin, fpick, fpack, await}
+use types.Kit.{pick, fsplit, fjoin, fpick, fpack, await}
 use types.Tokens.{lft-new}
 use denote.Laws.{Is, shows}
 use denote.Lend.{lends-ref, ref-back}

@@ -7,6 +7,7 @@ pub mod Rests
 pub mod Passed
 pub mod Readings
 pub mod Called
+pub mod Moves
 pub mod Nexts
 pub mod NextsOver
 pub mod Lent
