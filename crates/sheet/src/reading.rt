@@ -132,7 +132,7 @@ impl<'a> Reader<'a> {
     }
 }
 
-// The offset that a reading reaches which starts at a cursor and reads one record there.
+// How far a reading gets that starts at a cursor and reads one record: nowhere where there is none.
 pub fn behind_record(sheet: &[u8], n: u8, from: Cursor) -> usize
     ensures { λ r. ⌜ r ≡ recordEnd (itemAt Place.Record (now (sheet .entry)) n from) from .at ⌝ }
 {
