@@ -9,6 +9,7 @@ use base.Logic.{SProp, ent, sep, emp, emp∗, comm∗, monoL, exE, snd∗, via, 
 use base.Fml.{ftrue}
 use prog.Wp.{Heap, Calls}
 use ghost.Atoms.{Atoms, sem}
+use contract.Lifetimes.{Lfts}
 use contract.Monad.{fact}
 use types.Kit.{Goal, prop, Soaks, Seq, Step, step, Given, Item, mean, ‵, raw, some, later, _⊛_, _$_, _∵_, !, qed}
 use types.Kit.{move, use1, split, pick}
@@ -18,7 +19,8 @@ use denote.Laws.{Is, shows}
 use denote.Signature.{plain}
 use denote.Exit.{yes}
 use denote.Steps.{peeks, heard}
-use denote.Triple.Clauses.{Ended, Clauses, closing, ensured, lasts}
+use denote.Triple.Clauses.{Ended, Clauses, closing, ensured, lasts, atExit, AtExit as Seen}
+use denote.Triple.Entry.{Args, Res}
 use denote.Triple.Spec.{tripleOf}
 use denote.Triple.Statement.{Contract, Triple}
 use Rattle.fields.specs.declared.numbers.Cursor.{Cursor}
@@ -50,6 +52,14 @@ module _ {M : Type 1} {𝓤 : URA M} {H : Heap 𝓤} {A : Atoms 𝓤} {Z : Type 
       told-behind t soaks S tokens (λ r. r ≡ x) Said said u (λ r is-x is.
       rewrite t 0 (λ (y : S .Denot). ‵ (S .own y (u ∷ []))) is-x refl $
       k (subst (λ (y : S .Denot). Is S y (u ∷ [])) is-x is))
+
+-- behind a call, what its contract's clause says whatever is left of the parameters
+pub said-of : {M : Type 1} (𝓤 : URA M) (H : Heap 𝓤) (A : Atoms 𝓤) (T : Ended) (c : Clauses 𝓤 T)
+    (κs : Lfts (T .signature .lifetimes)) (a : Args (T .signature) κs) (g : c κs a .ghost) (r : Res (T .signature) κs)
+    {P : SProp 𝓤} → ((left : Seen T κs) → ent 𝓤 (c κs a .ensures g r left) P) → ent 𝓤 (ensured 𝓤 H A T c κs a g r) P
+said-of 𝓤 H A T c κs a g r says =
+    exE 𝓤 _ (λ ws. via 𝓤 _ (snd∗ 𝓤 (sem 𝓤 H A (lasts T κs a ws)) (c κs a .ensures g r (atExit T κs a ws)))
+    (says (atExit T κs a ws)))
 
 -- what a contract's clause says, at an exit
 pub claims : {M : Type 1} {𝓤 : URA M} {H : Heap 𝓤} {A : Atoms 𝓤} {Z : Type 0} {W : Given 𝓤 H A} {Γ : List (Item 𝓤)}
@@ -96,8 +106,7 @@ module _ {M : Type 1} (𝓤 : URA M) (H : Heap 𝓤) (A : Atoms 𝓤) (S : Rattl
     SaidEnd c = ensured 𝓤 H A (endEnded S) endClauses tt (x, (from, tt)) tt c
 
     pub said-end : (c : Cursor) → ent 𝓤 (SaidEnd c) (fact 𝓤 (c ≡ ends x from))
-    said-end c =
-        exE 𝓤 _ (λ ws. snd∗ 𝓤 (sem 𝓤 H A (lasts (endEnded S) tt (x, (from, tt)) ws)) (fact 𝓤 (c ≡ ends x from)))
+    said-end c = said-of 𝓤 H A (endEnded S) endClauses tt (x, (from, tt)) tt c (λ left. id⊢ 𝓤 _)
 
     abbrev to-end : Val → End .Ghost
     to-end u = ((tt, tt, tt, (x, (from, tt)), (u ∷ [], (K′.lowered from ∷ [], tt))), tt)

@@ -17,18 +17,14 @@ use types.Tokens.{lft-new}
 use denote.Laws.{Is, shows}
 use denote.Lend.{lends-ref, ref-back}
 use denote.Memory.{mem, partOf, cellAt}
-use denote.Ref.{RefT, MutRef}
+use denote.Ref.{MutRef}
 use denote.Struct.Laws as LL
 use denote.Struct.Steps.{spelt}
 use borrow.Within.Token.{Rest, within-token, within-end}
 use Rattle.sheet.specs.declared.reading.Reader.{Reader}
-use Rattle.sheet.proofs.Readings.{held, row, Own, cell, Lies}
+use Rattle.sheet.proofs.Readings.{held, row, Own, cell, Lies, lent}
 use Rattle.sheet.proofs.reading.Reader as T
 use Rattle.sheet.proofs.reading.Reader.Laws as T′
-
--- the reading h at (b, o), lent under the name δ
-abbrev pub lent : ℕ → ℕ → GName → Reader → RefT Reader
-lent b o δ h = record { ptr = (b, o); name = δ; now = h }
 
 module _ {M : Type 1} {𝓤 : URA M} {H : Heap 𝓤} {A : Atoms 𝓤} {Z : Type 0} {W : Given 𝓤 H A} {Γ : List (Item 𝓤)}
     {G : Goal 𝓤 H} (κ : Lft) (b o : ℕ) where

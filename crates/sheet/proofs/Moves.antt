@@ -1,7 +1,7 @@
 -- What a function does that reads what comes next and moves the reading on, as code and as a walk, stated once over
--- the type S of what is read, the call that reads it, and the locals beside the six that it needs. The borrow is opened;
--- one copy of what the reading owns goes to the call that reads, beside the sheet's token, and one is kept; the cursor
--- that the second call returns is stored; the borrow is closed.
+-- the type S of what is read, the call that reads it, and the locals beside the six that it needs. The borrow is
+-- opened; one copy of what the reading owns goes to the call that reads, beside the sheet's token, and one is kept; the
+-- cursor that the second call returns is stored; the borrow is closed.
 use mathlib.Core.Path.{_≡_, refl, sym, ap, subst}
 use Prim.Native.Nat.{ℕ, suc}
 use mathlib.Core.List.{List, [], _∷_}
@@ -16,7 +16,7 @@ use base.Fml.{Lft, Share, GName, ftrue, fat, froom, flft, fobs, fauth, fbor, fob
 use prog.Wp.{Heap, Env, Spot, spotOf, Calls, Loops}
 use ghost.Atoms.{Atoms}
 use contract.Monad.{fact}
-use types.Kit.{Given, Item, Seq, mean, runs, frees, prop, atRet, ‵, _⊛_, _$_, move, drop, join, rewrite, fjoin}
+use types.Kit.{Given, Item, Seq, mean, runs, frees, prop, atRet, ‵, _$_, move, drop, join, rewrite, fjoin}
 use types.Part.{whole, sub, look-in, store-in}
 use types.Run.{Opds, Finds, Walks, look, init, store, forget, stop, hop, fld, from, load, of-opd, and-then}
 use types.Run.{no-more, assigns, land, returns}
@@ -34,7 +34,7 @@ use Rattle.fields.proofs.numbers.Cursor.Laws as K′
 use Rattle.sheet.specs.Readings.{moved}
 use Rattle.sheet.specs.declared.reading.Reader.{Reader}
 use Rattle.sheet.proofs.Called.{Behind, found-behind, End, Handed, SaidEnd, said-end, end-called}
-use Rattle.sheet.proofs.Readings.{held, row, Own, OwnFields, cell, Lies, slice, sheetVal, nextVal}
+use Rattle.sheet.proofs.Readings.{held, row, Own, HandedFields, cell, Lies, token, slice, sheetVal, nextVal}
 use Rattle.sheet.proofs.Readings.{cursor-typed, sheet-typed, next-is, opens-reading, keeps-reading}
 use Rattle.sheet.proofs.Readings.{closes-reading}
 use Rattle.sheet.proofs.reading.Reader.Laws as T′
@@ -69,13 +69,6 @@ module _ {M : Type 1} (𝓤 : URA M) (H : Heap 𝓤) (A : Atoms 𝓤) (W : Given
   abbrev end : Cursor
   end = ends found (h .next)
 
-  abbrev token : Item 𝓤
-  token = ‵ (flft κ′ q′) ⊛ ‵ ftrue
-
-  -- the call that reads is handed the sheet's token and what the reading's fields own
-  abbrev HandedFields : Item 𝓤
-  HandedFields = token ⊛ ‵ (OwnFields (held κ′) h)
-
   module _ (E : Env 𝓤 H) (l₀ l₁ l₂ l₃ l₄ l₅ : ℕ) (Γ : List (Item 𝓤)) where
     abbrev Ev : Env 𝓤 H
     Ev = (τ, l₀) ∷ (borrow, l₁) ∷ E
@@ -83,13 +76,13 @@ module _ {M : Type 1} (𝓤 : URA M) (H : Heap 𝓤) (A : Atoms 𝓤) (W : Given
     -- Γ is what is had beside, of the other locals
     abbrev Before : List (Item 𝓤)
     Before =
-        ‵ (fobs γ (row κ′ .coded .code h)) ∷ ‵ (fbor κ (Lies κ′ b o γ)) ∷ ‵ (flft κ q) ∷ token ∷ ‵ (froom K′.mir l₅ 0)
-        ∷ ‵ (froom K′.mir l₄ 0) ∷ ‵ (froom slice l₃ 0) ∷ ‵ (froom τ l₂ 0) ∷ ‵ (fat fullShare borrow l₁ 0 (vptr b o))
-        ∷ ‵ (froom τ l₀ 0) ∷ Γ
+        ‵ (fobs γ (row κ′ .coded .code h)) ∷ ‵ (fbor κ (Lies κ′ b o γ)) ∷ ‵ (flft κ q) ∷ token κ′ q′
+        ∷ ‵ (froom K′.mir l₅ 0) ∷ ‵ (froom K′.mir l₄ 0) ∷ ‵ (froom slice l₃ 0) ∷ ‵ (froom τ l₂ 0)
+        ∷ ‵ (fat fullShare borrow l₁ 0 (vptr b o)) ∷ ‵ (froom τ l₀ 0) ∷ Γ
 
     abbrev AtCall : List (Item 𝓤)
     AtCall =
-        HandedFields ∷ ‵ (Own (held κ′) h) ∷ ‵ (cell h b o) ∷ ‵ (fobor κ q (Lies κ′ b o γ))
+        HandedFields (held κ′) q′ h ∷ ‵ (Own (held κ′) h) ∷ ‵ (cell h b o) ∷ ‵ (fobor κ q (Lies κ′ b o γ))
         ∷ ‵ (fobs γ (row κ′ .coded .code h)) ∷ ‵ (fauth γ (row κ′ .coded .code h)) ∷ ‵ (froom K′.mir l₅ 0)
         ∷ ‵ (fat fullShare K′.mir l₄ 0 (nextVal h)) ∷ ‵ (fat fullShare slice l₃ 0 (sheetVal h)) ∷ ‵ (froom τ l₂ 0)
         ∷ ‵ (fat fullShare borrow l₁ 0 (vptr b o)) ∷ ‵ (froom τ l₀ 0) ∷ Γ
@@ -97,14 +90,14 @@ module _ {M : Type 1} (𝓤 : URA M) (H : Heap 𝓤) (A : Atoms 𝓤) (W : Given
     -- once all is stored, beside the open borrow
     abbrev Stored : Val → List (Item 𝓤)
     Stored u =
-        ‵ (S .own found (u ∷ [])) ∷ token ∷ ‵ (fat fullShare K′.mir l₅ 0 (nextVal h))
+        ‵ (S .own found (u ∷ [])) ∷ token κ′ q′ ∷ ‵ (fat fullShare K′.mir l₅ 0 (nextVal h))
         ∷ ‵ (fat fullShare K′.mir l₄ 0 (K′.lowered end)) ∷ ‵ (fat fullShare slice l₃ 0 (sheetVal h))
         ∷ ‵ (fat fullShare τ l₂ 0 u) ∷ ‵ (fat fullShare borrow l₁ 0 (vptr b o)) ∷ ‵ (fat fullShare τ l₀ 0 u) ∷ Γ
 
     abbrev After : Val → List (Item 𝓤)
     After u =
         ‵ (fobs γ (row κ′ .coded .code (moved h end))) ∷ ‵ (fbor κ (Lies κ′ b o γ)) ∷ ‵ (flft κ q)
-        ∷ ‵ (S .own found (u ∷ [])) ∷ token ∷ ‵ (froom K′.mir l₅ 0) ∷ ‵ (froom K′.mir l₄ 0) ∷ ‵ (froom slice l₃ 0)
+        ∷ ‵ (S .own found (u ∷ [])) ∷ token κ′ q′ ∷ ‵ (froom K′.mir l₅ 0) ∷ ‵ (froom K′.mir l₄ 0) ∷ ‵ (froom slice l₃ 0)
         ∷ ‵ (froom τ l₂ 0) ∷ ‵ (froom borrow l₁ 0) ∷ ‵ (froom τ l₀ 0) ∷ Γ
 
     module _ {Z : Type 0} (C : Calls 𝓤 H) (Λ : Loops 𝓤 H) (fm : FmC 𝓤 H (W .laws) C) (j₂ j₃ j₄ j₅ : ℕ)
@@ -112,7 +105,8 @@ module _ {M : Type 1} (𝓤 : URA M) (H : Heap 𝓤) (A : Atoms 𝓤) (W : Given
         (at₄ : spotOf 𝓤 H E j₄ ≡ (K′.mir, l₄, 0)) (at₅ : spotOf 𝓤 H E j₅ ≡ (K′.mir, l₅, 0)) (g e : Name)
         (xs : List Operand) (vs : List Val) (operands : Opds Z W AtCall Ev xs vs) (Said : S .Denot → SProp 𝓤)
         (said : (r : S .Denot) → ent 𝓤 (Said r) (fact 𝓤 (r ≡ found)))
-        (reads : ent 𝓤 (mean 𝓤 H A HandedFields) (C g vs (λ u. mean 𝓤 H A (Behind S token Said u))))
+        (reads : ent 𝓤 (mean 𝓤 H A (HandedFields (held κ′) q′ h))
+        (C g vs (λ u. mean 𝓤 H A (Behind S (token κ′ q′) Said u))))
         (known-end : Triple 𝓤 (C e) (End 𝓤 H A S ends)) (Post : Val → SProp 𝓤) where
       pub moves-on : Z → ((u : Val) → Seq Z W (After u) (frees Ev (prop (Post u))))
           → Seq Z W Before (runs C Λ Ev (moves j₂ j₃ j₄ j₅ g xs e) (atRet Ev Post))
@@ -120,15 +114,16 @@ module _ {M : Type 1} (𝓤 : URA M) (H : Heap 𝓤) (A : Atoms 𝓤) (W : Given
           opens-reading t tt κ κ′ q γ b o h (λ is.
           let is-next = next-is κ′ h is in
           let next-typed = cursor-typed 𝓤 H A W (h .next) (nextVal h) is-next in
-          -- [the reading's cell; what it owns; the open borrow; obs; auth; the token; j₅; j₄; j₃; j₂; the borrow's local;
-          -- room for the result; …]
+          -- [the reading's cell; what it owns; the open borrow; obs; auth; the token; j₅; j₄; j₃; j₂; the borrow's
+          -- local; room for the result; …]
           assigns t (of-opd t (load t (from t (hop t (look t 10 refl) (fld t refl (stop t))))
           (look-in t 0 (sub t 0 refl (whole t))))) (at-spot t at₃) (init t 8 refl (sheet-typed 𝓤 H A W κ′ h is)) $
           assigns t (of-opd t (load t (from t (hop t (look t 10 refl) (fld t refl (stop t))))
           (look-in t 0 (sub t 1 refl (whole t))))) (at-spot t at₄) (init t 7 refl next-typed) $
           move t (1 ∷ []) $ keeps-reading t (held κ′) h $ move t (6 ∷ 0 ∷ []) $ join t $
-          calls-from t fm HandedFields vs (λ u. mean 𝓤 H A (Behind S token Said u)) reads operands
-          (λ u. found-behind t tt S token found Said said u (λ is-found.
+          calls-from t fm (HandedFields (held κ′) q′ h) vs (λ u. mean 𝓤 H A (Behind S (token κ′ q′) Said u)) reads
+          operands
+          (λ u. found-behind t tt S (token κ′ q′) found Said said u (λ is-found.
           -- [what was found; the token; what the reading owns; its cell; the open borrow; obs; auth; j₅; …]
           land t (at-spot t at₂) (init t 10 refl (typed found u is-found)) $
           assigns t (of-opd t (load t (from t (hop t (look t 11 refl) (fld t refl (stop t))))

@@ -7,6 +7,7 @@ use lib.ListN.{length, take, drop, length-drop}
 use Rattle.fields.specs.declared.numbers.Cursor.{Cursor}
 use Rattle.fields.specs.declared.refusals.Place.{Place}
 use Rattle.fields.proofs.Chains.{told}
+use Rattle.items.specs.declared.items.Item.{Item}
 use Rattle.items.specs.declared.items.ItemRead.{ItemRead}
 use Rattle.items.specs.Items.{thenItem, itemAt, width}
 use Rattle.items.proofs.Lawful.{item-spans}
@@ -41,10 +42,11 @@ module _ (s : List ℕ) (n : ℕ) (c : Cursor) where
   inside-of (ItemRead.Is x next) e on = let h = told (item-spans Place.Record s n c) e in omega arith
   inside-of (ItemRead.Refused r) e on = absurd (omega arith)
 
-  none-of : (read : ItemRead) → itemAt Place.Record s n c ≡ read → recordEnd read c .at ≤ c .at → part read ≡ []
+  none-of : (on : Item → Cursor → List ℕ) (read : ItemRead) → itemAt Place.Record s n c ≡ read
+      → recordEnd read c .at ≤ c .at → thenItem read (λ r. []) on ≡ []
   unfolding width
-  none-of (ItemRead.Is x next) e stayed = let h = told (item-spans Place.Record s n c) e in absurd (omega arith)
-  none-of (ItemRead.Refused r) e stayed = refl
+  none-of on (ItemRead.Is x next) e stayed = let h = told (item-spans Place.Record s n c) e in absurd (omega arith)
+  none-of on (ItemRead.Refused r) e stayed = refl
 
   part-of : (read : ItemRead) → part read ≡ take (recordEnd read c .at - c .at) (drop (c .at) s)
   part-of (ItemRead.Is x next) = refl
@@ -55,9 +57,9 @@ module _ (s : List ℕ) (n : ℕ) (c : Cursor) where
     pub record-inside : c .at < end → end ≤ length s
     record-inside on = rw ends (inside-of _ refl (rw (← ends) on))
 
-    -- where it stayed there is none
-    pub no-record : end ≤ c .at → part (itemAt Place.Record s n c) ≡ []
-    no-record stayed = none-of _ refl (rw (← ends) stayed)
+    -- where it stayed there is none, whatever would be made of it
+    pub no-record : (on : Item → Cursor → List ℕ) → end ≤ c .at → thenItem (itemAt Place.Record s n c) (λ r. []) on ≡ []
+    no-record on stayed = none-of on _ refl (rw (← ends) stayed)
 
     pub record-taken : part (itemAt Place.Record s n c) ≡ take (end - c .at) (drop (c .at) s)
     record-taken = rw ends (part-of (itemAt Place.Record s n c))

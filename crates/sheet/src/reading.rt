@@ -16,6 +16,7 @@ ghost use Rattle.fields.specs.Fields.{byteField, wordField};
 ghost use Rattle.items.specs.Items.{itemAt, questionAt};
 ghost use Rattle.sheet.specs.Readings.{bytesOf, started, moved, byteEnd, wordEnd, recordEnd, questionEnd};
 
+// The sheet, and where what comes next starts.
 pub struct Reader<'a> {
     pub sheet: &'a [u8],
     pub next: Cursor,

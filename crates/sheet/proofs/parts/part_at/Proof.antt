@@ -34,7 +34,7 @@ returns-2 c =
     let behind = c .before .before in
     let start = behind .before .before in
     rw (← start .before .before .items-end .ensures, start .start .given .1)
-    (sym (no-record _ _ _ (behind .behind-record .ensures) (c .before .if1 .taken)))
+    (sym (no-record _ _ _ (behind .behind-record .ensures) _ (c .before .if1 .taken)))
 
 sub-result : tie.Need-sub-result
 sub-result c = search needs
