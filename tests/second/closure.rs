@@ -1,8 +1,7 @@
 // The derived facts: both relations as grids of bits, closed by inserting whole rows of pairs at a time.
 
 use crate::forbidden::Forbidden;
-use crate::rows::{bit, diagonal, holds, least, Grid, Row, EMPTY};
-use crate::rows::{members, pairs};
+use crate::rows::{bit, diagonal, holds, least, members, pairs, Grid, Row, EMPTY};
 use crate::selections::{Branch, Selections};
 use crate::sheet::{Question, Selection, Sheet};
 
