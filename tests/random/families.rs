@@ -57,10 +57,8 @@ fn state_anything(numbers: &mut Numbers, sheet: &mut Sheet, palette: &Palette, c
 /// Questions of every kind, now and then with a feature or a label that the sheet does not name.
 fn ask_anything(numbers: &mut Numbers, sheet: &mut Sheet, palette: &Palette, count: usize) {
     let known = Palette { features: palette.features.clone(), labels: palette.labels.clone() };
-    let wider = Palette {
-        features: [&palette.features[..], &[777]].concat(),
-        labels: [&palette.labels[..], &[778]].concat(),
-    };
+    let wider =
+        Palette { features: [&palette.features[..], &[777]].concat(), labels: [&palette.labels[..], &[778]].concat() };
     for _ in 0..count {
         let palette = if numbers.once_in(3) { &wider } else { &known };
         let said = anything(numbers, sheet.n, palette, [1, 1, 1, 1]);
@@ -322,21 +320,15 @@ pub fn dense(numbers: &mut Numbers) -> Sheet {
     sheet
 }
 
-/// What a programme compiler writes: 40 variables, 150 records, 60 questions.
+/// What a programme compiler writes: 40 variables, 150 records, 60 questions; most are consistent.
 pub fn ordinary(numbers: &mut Numbers) -> Sheet {
-    let mut sheet = Sheet::over(40);
-    let palette = Palette { features: (0..12).collect(), labels: (100..110).collect() };
-    while sheet.records.len() < 150 {
-        let i = numbers.below(40);
-        sheet.state(match numbers.below(20) {
-            0..=4 => Said::Ordered(i, (i + 1 + numbers.below(6)).min(39)),
-            5 => Said::Compatible(i, numbers.below(40)),
-            6..=18 => Said::Selected(i, palette.feature(numbers), (i + 1 + numbers.below(20)).min(39)),
-            _ => Said::Labelled(100 + (i / 4) as u16, i),
-        });
-    }
-    ask_anything(numbers, &mut sheet, &palette, 60);
-    sheet
+    let any = numbers.once_in(10);
+    crate::ordinary::sheet(numbers, |sheet| any || is_consistent(sheet))
+}
+
+fn is_consistent(sheet: &Sheet) -> bool {
+    let (mut facts, mut work, mut replies) = (vec![0; 16_384], vec![0; 16_384], vec![0; 1_024]);
+    second::check(&sheet.bytes(), &mut facts, &mut work, &mut replies) & 255 == 0
 }
 
 /// Many variables and up to 1,024 records and questions.

@@ -83,7 +83,12 @@ impl Lent {
         let names = ["sheet", "first table", "second table", "reply buffer"];
         for ((start, length), name) in self.starts().into_iter().zip(lengths).zip(names) {
             if (start..start + length).contains(&at) {
-                return Some(format!("byte {} of the {name} is {} and {}", at - start, self.bytes[at], other.bytes[at]));
+                return Some(format!(
+                    "byte {} of the {name} is {} and {}",
+                    at - start,
+                    self.bytes[at],
+                    other.bytes[at]
+                ));
             }
         }
         Some(format!("a byte that was not lent is {} and {}", self.bytes[at], other.bytes[at]))

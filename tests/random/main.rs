@@ -7,6 +7,8 @@ mod damage;
 mod families;
 mod lent;
 mod numbers;
+#[path = "../../bench/ordinary.rs"]
+mod ordinary;
 mod sheets;
 mod tally;
 
@@ -100,9 +102,7 @@ fn damaged_cases(family: &str, numbers: &mut Numbers) -> Vec<Case> {
         "wrong-field" => damage::wrong_fields(&sheet),
         "changed-byte" => damage::changed_bytes(numbers, &sheet),
         "trailing" => damage::trailing(numbers, &sheet),
-        "noise" => {
-            return vec![Case { bytes: damage::noise(numbers), known: Known::Nothing, lending: Lending::Most }]
-        }
+        "noise" => return vec![Case { bytes: damage::noise(numbers), known: Known::Nothing, lending: Lending::Most }],
         "lengths" => {
             let sheet = families::small(numbers);
             return vec![Case::whole(&sheet, Lending::Around(sheet.n * sheet.n))];
@@ -195,43 +195,58 @@ fn compare(program: &str, case: &Case, numbers: &mut Numbers, tally: &mut Tally)
     compare_run(program, case, tally)
 }
 
-/// Compares every so-many-th draw of each line, and stops where something differs.
-fn compare_share(program: &str, lines: &[Line], share: usize) -> Result<Tally, String> {
+/// Compares every so-many-th draw of each line, and stops where something differs: a tally for each line.
+fn compare_share(program: &str, lines: &[Line], share: usize) -> Result<Vec<Tally>, String> {
+    lines.iter().map(|line| compare_line(program, line, share)).collect()
+}
+
+fn compare_line(program: &str, line: &Line, share: usize) -> Result<Tally, String> {
     let mut tally = Tally::default();
-    for line in lines {
-        for draw in (share as u64..line.count).step_by(THREADS) {
-            let mut numbers = Numbers::of(line.seed, draw);
-            for (k, case) in cases(&line.family, &mut numbers).iter().enumerate() {
-                let found = compare(program, case, &mut numbers, &mut tally);
-                let place = || format!("{} {}, draw {draw}, sheet {k}", line.family, line.seed);
-                found.map_err(|what| format!("{}: {what}\nthe sheet: {:?}", place(), case.bytes))?;
-            }
+    for draw in (share as u64..line.count).step_by(THREADS) {
+        let mut numbers = Numbers::of(line.seed, draw);
+        for (k, case) in cases(&line.family, &mut numbers).iter().enumerate() {
+            let found = compare(program, case, &mut numbers, &mut tally);
+            let place = || format!("{} {}, draw {draw}, sheet {k}", line.family, line.seed);
+            found.map_err(|what| format!("{}: {what}\nthe sheet: {:?}", place(), case.bytes))?;
         }
     }
     Ok(tally)
 }
 
-fn compare_all(program: &str, lines: &[Line]) -> Result<Tally, String> {
-    let mut all = Tally::default();
-    let shares: Vec<Result<Tally, String>> = std::thread::scope(|scope| {
+fn compare_all(program: &str, lines: &[Line]) -> Result<Vec<Tally>, String> {
+    let shares: Vec<Result<Vec<Tally>, String>> = std::thread::scope(|scope| {
         let started: Vec<_> =
             (0..THREADS).map(|share| scope.spawn(move || compare_share(program, lines, share))).collect();
         started.into_iter().map(|thread| thread.join().expect("a thread that ends")).collect()
     });
+    let mut all: Vec<Tally> = lines.iter().map(|_| Tally::default()).collect();
     for share in shares {
-        all.add(&share?);
+        all.iter_mut().zip(&share?).for_each(|(line, part)| line.add(part));
     }
     Ok(all)
 }
 
-/// Prints the counts; false where one is 0.
-fn report(tally: &Tally) -> bool {
-    let named = tally.named();
-    for (name, count) in &named {
-        println!("{count:>8} {name}");
+/// Prints a row for each family, then all counts; false where one is 0 that has no right to be.
+fn report(lines: &[Line], tallies: &[Tally]) -> bool {
+    let mut all = Tally::default();
+    let mut missing = Vec::new();
+    println!("{:>20} {:>8} {:>8} {:>8} {:>10} {:>8}", "family", "sheets", "refused", "clash", "consistent", "never");
+    for (line, tally) in lines.iter().zip(tallies) {
+        let (refused, never) = (tally.refused.iter().sum::<u64>(), tally.never());
+        let Tally { sheets, clashed, consistent, .. } = tally;
+        println!("{:>20} {sheets:>8} {refused:>8} {clashed:>8} {consistent:>10} {never:>8}", line.family);
+        if line.family.starts_with("clash-by") && *clashed == 0 || line.family.contains("-trial") && never == 0 {
+            missing.push(format!("what {} is for", line.family));
+        }
+        all.add(tally);
     }
-    println!("{} sheets, {} runs of the program, {} calls, 0 differences", tally.sheets, tally.runs, tally.calls);
-    let missing: Vec<&str> = named.iter().filter(|(_, count)| *count == 0).map(|(name, _)| &name[..]).collect();
+    for (name, count) in all.named() {
+        println!("{count:>8} {name}");
+        if count == 0 {
+            missing.push(name);
+        }
+    }
+    println!("{} sheets, {} runs of the program, {} calls, 0 differences", all.sheets, all.runs, all.calls);
     if !missing.is_empty() {
         println!("not seen at all: {}", missing.join(", "));
     }
@@ -246,7 +261,7 @@ fn main() -> ExitCode {
     };
     let lines = read_seeds(&std::fs::read_to_string(seeds).expect("the file of seeds"));
     match compare_all(program, &lines) {
-        Ok(tally) if report(&tally) => ExitCode::SUCCESS,
+        Ok(tallies) if report(&lines, &tallies) => ExitCode::SUCCESS,
         Ok(_) => ExitCode::FAILURE,
         Err(what) => {
             println!("{what}");

@@ -59,6 +59,11 @@ impl Tally {
         }
     }
 
+    /// How many questions got the reply never.
+    pub fn never(&self) -> u64 {
+        self.replies.iter().map(|counts| counts[1]).sum()
+    }
+
     pub fn refused_at(&mut self, place: Place) {
         if let Some(k) = PLACES.iter().position(|&(known, _)| known == place) {
             self.places[k] += 1;
