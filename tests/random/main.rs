@@ -95,6 +95,11 @@ fn cases(family: &str, numbers: &mut Numbers) -> Vec<Case> {
     vec![Case::whole(&sheet, Lending::Enough(sheet.n * sheet.n))]
 }
 
+/// A sheet with every length of buffers around what it needs.
+fn around(sheet: &Sheet) -> Vec<Case> {
+    vec![Case::whole(sheet, Lending::Around(sheet.n * sheet.n))]
+}
+
 fn damaged_cases(family: &str, numbers: &mut Numbers) -> Vec<Case> {
     let sheet = damage::base(numbers);
     let all = match family {
@@ -103,10 +108,8 @@ fn damaged_cases(family: &str, numbers: &mut Numbers) -> Vec<Case> {
         "changed-byte" => damage::changed_bytes(numbers, &sheet),
         "trailing" => damage::trailing(numbers, &sheet),
         "noise" => return vec![Case { bytes: damage::noise(numbers), known: Known::Nothing, lending: Lending::Most }],
-        "lengths" => {
-            let sheet = families::small(numbers);
-            return vec![Case::whole(&sheet, Lending::Around(sheet.n * sheet.n))];
-        }
+        "lengths" => return around(&families::small(numbers)),
+        "lengths-of-longest" => return around(&families::longest(numbers)),
         _ => panic!("no family {family}"),
     };
     all.into_iter().map(Case::damaged).collect()
