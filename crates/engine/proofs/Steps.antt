@@ -1,11 +1,9 @@
 -- The steps of a check of an accepted sheet: what each next call requires, and what all of them leave.
-use Prim.Native.Nat.{ℕ, _<_}
+use Prim.Native.Nat.{ℕ}
 use lib.ListN.{length, replicate}
 use mathlib.Core.Bool.{true, false}
 use mathlib.Core.List.{List, map}
 use mathlib.Core.Path.{_≡_, refl, subst}
-use native.Mathlib.Nat.{mul-le-mul}
-use native.Mathlib.Omega.{arith}
 use Rattle.fields.specs.declared.numbers.Cursor.{Cursor}
 use Rattle.headers.specs.declared.headers.Header.{Header}
 use Rattle.headers.specs.Headers.{tableSize}
@@ -13,12 +11,9 @@ use Rattle.items.specs.Statements.{AllName}
 use Rattle.sheet.specs.Sheets.{sheetOf}
 use Rattle.sheet.proofs.Theorems.{accepted-variables, accepted-stated}
 use Rattle.rules.specs.declared.clashes.Clash.{Clash}
-use Rattle.rules.specs.Facts.{Kind}
-use Rattle.rules.specs.Tables.{facts, countFacts}
 use Rattle.rules.specs.Derived.{derived}
 use Rattle.rules.specs.Clashes.{clashOf, isClash}
 use Rattle.rules.specs.Replies.{repliesOf, replyNumber}
-use Rattle.rules.proofs.Counts.{count-bound}
 use Rattle.rules.proofs.Logic.{contrary}
 use Rattle.table.specs.Queue.{queueRoom}
 use Rattle.answers.specs.Cells.{Lent}
@@ -29,12 +24,9 @@ use Rattle.closure.proofs.Grouped.{made-lent}
 use Rattle.statements.specs.Lists.{InLists}
 use Rattle.replies.specs.Replying.{Held}
 use Rattle.outcomes.specs.declared.outcomes.Outcome.{Outcome}
-use Rattle.engine.specs.Checks.{tableOutcome, whereConsistent}
+use Rattle.outcomes.specs.Closed.{tableOutcome}
+use Rattle.engine.specs.Checks.{whereConsistent}
 use Rattle.engine.specs.Steps.{Accepting, Answering, Filled}
-
--- a count of facts fits in two bytes
-pub few-facts : {n : ℕ} {t : List ℕ} → Lent n t → (kind : Kind) {r : ℕ} → r ≡ countFacts n (facts n t) kind → r < 65536
-few-facts {n} {t} lent kind e = omega (arith, e, count-bound n (facts n t) kind, mul-le-mul (lent .few) (lent .few))
 
 -- a clash or none, by its test
 pub no-clash : (clash : Clash) → isClash clash ≡ false → clash ≡ Clash.Nowhere

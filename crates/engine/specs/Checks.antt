@@ -7,20 +7,13 @@ use Rattle.fields.specs.declared.refusals.Refusal.{Refusal}
 use Rattle.sheet.specs.declared.whole.SheetRead.{SheetRead}
 use Rattle.sheet.specs.Sheets.{Sheet, thenSheet, sheetOf}
 use Rattle.rules.specs.declared.clashes.Clash.{Clash}
-use Rattle.rules.specs.Facts.{ordered, compatible}
-use Rattle.rules.specs.Tables.{facts, countFacts}
 use Rattle.rules.specs.Derived.{derived}
 use Rattle.rules.specs.Clashes.{clashOf}
 use Rattle.rules.specs.Replies.{repliesOf, replyNumber}
 use Rattle.outcomes.specs.declared.outcomes.Outcome.{Outcome}
+use Rattle.outcomes.specs.Closed.{tableOutcome}
 use Rattle.outcomes.specs.Judged.{judged}
 use Rattle.outcomes.specs.Outcomes.{packed}
-
--- of a table: how many facts it has of each kind, or the pair that clashes in it
-abbrev pub tableOutcome : ℕ → List ℕ → Clash → Outcome
-tableOutcome n t Clash.Nowhere =
-    Outcome.Consistent (countFacts n (facts n t) ordered) (countFacts n (facts n t) compatible)
-tableOutcome n t (Clash.Between i j) = Outcome.Clash i j
 
 -- of a sheet
 abbrev pub sheetOutcome : Sheet → Outcome

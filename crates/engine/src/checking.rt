@@ -1,11 +1,11 @@
 // The check of a sheet: all facts, the clash if there is one, else one reply a question.
 use answers::clash_of;
-use answers::count_facts;
 use closure::is_clash;
 use closure::make;
 use labels::spread_of;
 use outcomes::Outcome;
 use outcomes::judge;
+use outcomes::outcome_of;
 use replies::reply_all;
 use rules::Clash;
 use selections::PLACES;
@@ -25,10 +25,9 @@ ghost use mathlib.Core.List.{map};
 ghost use mathlib.Core.Path.{_≡_};
 ghost use Rattle.sheet.specs.Sheets.{longest, sheetOf};
 ghost use Rattle.rules.specs.Replies.{repliesOf, replyNumber};
-ghost use Rattle.answers.specs.Cells.{Lent};
 ghost use Rattle.statements.specs.Lists.{InLists};
 ghost use Rattle.replies.specs.Replying.{Held};
-ghost use Rattle.engine.specs.Checks.{tableOutcome, ofRefusal, whereConsistent, Checked};
+ghost use Rattle.engine.specs.Checks.{ofRefusal, whereConsistent, Checked};
 ghost use Rattle.engine.specs.Steps.{Answering, Accepting, Filled};
 
 // The outcome of a refusal.
@@ -38,21 +37,6 @@ fn refused(refusal: Refusal) -> Outcome
 {
     let fault = refusal.fault;
     Outcome::Refused(fault, refusal.at as u16)
-}
-
-// The outcome of a closed table: how many facts it has of each kind, or the pair that clashes in it.
-fn outcome_of(clash: Clash, closed: &[u8], n: usize) -> Outcome
-    requires { ⌜ Lent n (now closed) ⌝ }
-    ensures { λ r. ⌜ r ≡ tableOutcome n (now (closed .entry)) clash ⌝ }
-{
-    match clash {
-        Clash::Between(i, j) => Outcome::Clash(i, j),
-        Clash::Nowhere => {
-            let orderings = count_facts(closed, n, false);
-            let compatibilities = count_facts(closed, n, true);
-            Outcome::Consistent(orderings as u16, compatibilities as u16)
-        }
-    }
 }
 
 // Where nothing clashes, the replies to all questions, tried in the second table, which is cleared then.

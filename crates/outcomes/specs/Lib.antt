@@ -1,3 +1,4 @@
--- What is refused, and the outcome as one number.
+-- What is refused, what a closed table tells, and the outcome as one number.
 pub mod Judged
+pub mod Closed
 pub mod Outcomes

@@ -1,10 +1,10 @@
--- `engine::checking::outcome_of` meets its contract: at most 128 × 128 facts of a kind.
+-- `outcomes::closed::outcome_of` meets its contract: at most 128 × 128 facts of a kind.
 use borrow.Author.Needs.{needs}
 use mathlib.Core.Path.{refl, sym, ap}
-use Rattle.engine.specs.Checks.{tableOutcome}
-use Rattle.engine.proofs.Steps.{few-facts}
-use Rattle.engine.proofs.checking.outcome_of.Statement.{statement}
-use Rattle.engine.proofs.checking.outcome_of.Tie as tie
+use Rattle.outcomes.specs.Closed.{tableOutcome}
+use Rattle.outcomes.proofs.Counted.{few-facts}
+use Rattle.outcomes.proofs.closed.outcome_of.Statement.{statement}
+use Rattle.outcomes.proofs.closed.outcome_of.Tie as tie
 
 enum-known-clash : tie.Need-enum-known-clash
 enum-known-clash c = search needs
