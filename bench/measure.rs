@@ -12,6 +12,9 @@ mod timing;
 #[allow(dead_code)]
 mod stored;
 
+#[path = "../tests/random/calls.rs"]
+mod calls;
+
 #[path = "../tests/random/sheets.rs"]
 #[allow(dead_code)]
 mod sheets;

@@ -1,19 +1,8 @@
 //! The three solvers that are measured, behind one call.
 
-type Check = unsafe extern "C" fn(*const u8, usize, *mut u8, usize, *mut u8, usize, *mut u8, usize) -> u64;
+use crate::calls::{call, engine};
 
 extern "C" {
-    fn check_sheet(
-        sheet: *const u8,
-        sheet_length: usize,
-        facts: *mut u8,
-        facts_length: usize,
-        work: *mut u8,
-        work_length: usize,
-        replies: *mut u8,
-        replies_length: usize,
-    ) -> u64;
-
     fn reference_check(
         sheet: *const u8,
         sheet_length: usize,
@@ -24,6 +13,10 @@ extern "C" {
         replies: *mut u8,
         replies_length: usize,
     ) -> u64;
+}
+
+fn reference(sheet: &[u8], facts: &mut [u8], work: &mut [u8], replies: &mut [u8]) -> u64 {
+    call(reference_check, sheet, facts, work, replies)
 }
 
 #[derive(Clone, Copy)]
@@ -48,22 +41,15 @@ impl Buffers {
     pub fn new() -> Buffers {
         Buffers { facts: vec![9; 16_384], work: vec![9; 16_384], replies: vec![9; 1_024] }
     }
-
-    fn lend(&mut self, sheet: &[u8], check: Check) -> u64 {
-        let Buffers { facts, work, replies } = self;
-        let (sheet, length) = (sheet.as_ptr(), sheet.len());
-        let (f, w, r) = (facts.as_mut_ptr(), work.as_mut_ptr(), replies.as_mut_ptr());
-        // The four parts are valid and share no byte.
-        unsafe { check(sheet, length, f, facts.len(), w, work.len(), r, replies.len()) }
-    }
 }
 
 impl Solver {
     pub fn check(self, sheet: &[u8], lent: &mut Buffers) -> u64 {
-        match self {
-            Solver::Engine => lent.lend(sheet, check_sheet),
-            Solver::Reference => lent.lend(sheet, reference_check),
-            Solver::Second => second::check(sheet, &mut lent.facts, &mut lent.work, &mut lent.replies),
-        }
+        let check = match self {
+            Solver::Engine => engine,
+            Solver::Reference => reference,
+            Solver::Second => second::check,
+        };
+        check(sheet, &mut lent.facts, &mut lent.work, &mut lent.replies)
     }
 }

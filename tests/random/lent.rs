@@ -1,19 +1,6 @@
-//! The call from C: memory that is lent, and what two solvers leave in it.
+//! Memory that is lent, and what two solvers leave in it.
 
 use crate::numbers::Numbers;
-
-extern "C" {
-    fn check_sheet(
-        sheet: *const u8,
-        sheet_length: usize,
-        facts: *mut u8,
-        facts_length: usize,
-        work: *mut u8,
-        work_length: usize,
-        replies: *mut u8,
-        replies_length: usize,
-    ) -> u64;
-}
 
 /// Bytes before, between and behind the lent parts, which nobody may touch.
 const GUARD: usize = 40;
@@ -57,23 +44,14 @@ impl Lent {
         &self.bytes[at..at + self.lengths.replies]
     }
 
-    /// Lends the parts to the engine.
-    pub fn call_engine(&mut self) -> u64 {
-        let [sheet, facts, work, replies] = self.starts();
-        let all = self.bytes.as_mut_ptr();
-        let Lengths { facts: m, work: w, replies: q } = self.lengths;
-        // The parts lie inside `bytes` and share no byte.
-        unsafe { check_sheet(all.add(sheet), self.sheet, all.add(facts), m, all.add(work), w, all.add(replies), q) }
-    }
-
-    /// Lends the parts to the second solver.
-    pub fn call_second(&mut self) -> u64 {
+    /// Lends the parts to a check.
+    pub fn lend(&mut self, check: fn(&[u8], &mut [u8], &mut [u8], &mut [u8]) -> u64) -> u64 {
         let [sheet, facts, work, replies] = self.starts();
         let Lengths { facts: m, work: w, replies: q } = self.lengths;
         let (front, rest) = self.bytes.split_at_mut(facts);
         let (first, rest) = rest.split_at_mut(work - facts);
         let (second, third) = rest.split_at_mut(replies - work);
-        second::check(&front[sheet..sheet + self.sheet], &mut first[..m], &mut second[..w], &mut third[..q])
+        check(&front[sheet..sheet + self.sheet], &mut first[..m], &mut second[..w], &mut third[..q])
     }
 
     /// Says in which part the first byte that differs lies.

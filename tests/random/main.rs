@@ -3,6 +3,7 @@
 //! Each sheet goes through the checking program, whose output has to be what the second solver prints, and through the
 //! call from C: the outcome and every byte of the memory around the call have to be the same as the second solver's.
 
+mod calls;
 mod damage;
 mod families;
 mod lent;
@@ -144,7 +145,7 @@ fn lengths_around(table: usize, questions: usize) -> Vec<Lengths> {
 fn compare_call(case: &Case, lengths: Lengths, numbers: &mut Numbers, tally: &mut Tally) -> Result<(), String> {
     let mut engine = Lent::new(numbers, &case.bytes, lengths);
     let mut second = engine.clone();
-    let (outcome, expected) = (engine.call_engine(), second.call_second());
+    let (outcome, expected) = (engine.lend(calls::engine), second.lend(second::check));
     let Lengths { facts, work, replies } = lengths;
     let told = format!("lent {facts}, {work} and {replies} bytes");
     if outcome != expected {
