@@ -3,16 +3,8 @@
 use crate::calls::{call, engine};
 
 extern "C" {
-    fn reference_check(
-        sheet: *const u8,
-        sheet_length: usize,
-        facts: *mut u8,
-        facts_length: usize,
-        work: *mut u8,
-        work_length: usize,
-        replies: *mut u8,
-        replies_length: usize,
-    ) -> u64;
+    fn reference_check(_: *const u8, _: usize, _: *mut u8, _: usize, _: *mut u8, _: usize, _: *mut u8, _: usize)
+        -> u64;
 }
 
 fn reference(sheet: &[u8], facts: &mut [u8], work: &mut [u8], replies: &mut [u8]) -> u64 {

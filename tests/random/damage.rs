@@ -4,10 +4,16 @@ use crate::families;
 use crate::numbers::Numbers;
 use crate::sheets::{Place, Sheet};
 
-/// A damaged sheet, and the place that the damage was done to.
+/// Where a sheet was damaged: what stands there, and the offset that is told where it is refused for it.
+#[derive(Clone, Copy)]
+pub struct Damage {
+    pub place: Place,
+    pub offset: usize,
+}
+
 pub struct Damaged {
     pub bytes: Vec<u8>,
-    pub place: Place,
+    pub damage: Damage,
 }
 
 /// A sheet with a field of every kind, and with what a small one has besides.
@@ -28,7 +34,7 @@ pub fn cuts(sheet: &Sheet) -> Vec<Damaged> {
     let mut all = Vec::new();
     for field in sheet.fields() {
         for end in field.offset..field.offset + field.length {
-            all.push(Damaged { bytes: bytes[..end].to_vec(), place: field.place });
+            all.push(Damaged { bytes: bytes[..end].to_vec(), damage: Damage { place: field.place, offset: end } });
         }
     }
     all
@@ -42,7 +48,7 @@ pub fn wrong_fields(sheet: &Sheet) -> Vec<Damaged> {
         for value in wrong_values(field.place, bytes[field.offset], sheet.n) {
             let mut changed = bytes.clone();
             changed[field.offset..field.offset + value.len()].copy_from_slice(&value);
-            all.push(Damaged { bytes: changed, place: field.place });
+            all.push(Damaged { bytes: changed, damage: Damage { place: field.place, offset: field.offset } });
         }
     }
     all
@@ -72,7 +78,7 @@ pub fn changed_bytes(numbers: &mut Numbers, sheet: &Sheet) -> Vec<Damaged> {
         for offset in field.offset..field.offset + field.length {
             let mut changed = bytes.clone();
             changed[offset] ^= numbers.pick(&[1, 2, 4, 8, 16, 32, 64, 128, 255, 3]);
-            all.push(Damaged { bytes: changed, place: field.place });
+            all.push(Damaged { bytes: changed, damage: Damage { place: field.place, offset: field.offset } });
         }
     }
     all
@@ -83,8 +89,9 @@ pub fn trailing(numbers: &mut Numbers, sheet: &Sheet) -> Vec<Damaged> {
     let mut all = Vec::new();
     for more in [1, 2, 3, 9, 14_342, 20_000] {
         let mut bytes = sheet.bytes();
+        let damage = Damage { place: Place::Behind, offset: bytes.len() };
         bytes.extend((0..more).map(|_| numbers.byte()));
-        all.push(Damaged { bytes, place: Place::Behind });
+        all.push(Damaged { bytes, damage });
     }
     all
 }

@@ -194,15 +194,37 @@ fn linked(numbers: &mut Numbers, links: &[Link], depth: usize, stated: bool) -> 
     paths.sheet
 }
 
-/// Clashes that come down by F2.
+/// Clashes that need F2: the end of the lower path is labelled, and the end of the upper one is stated to be compatible
+/// with a variable of another label. That the two ends are compatible, which F4 gives, is not enough.
 pub fn clash_by_f2(numbers: &mut Numbers) -> Sheet {
+    let palette = Palette { features: vec![0, 1, 2], labels: vec![5, 6] };
+    let depth = numbers.between(1, 6);
+    let mut paths = two_paths(numbers, depth, &palette);
+    let ((x, y), (u, v)) = (paths.heads, paths.ends);
+    let turned = numbers.once_in(2);
+    let (lower, upper) = if turned { (v, u) } else { (u, v) };
+    let beside = paths.sheet.n;
+    let sheet = &mut paths.sheet;
+    sheet.n += 1;
+    sheet.records.truncate(2 * depth);
+    let across = [Said::Compatible(upper, beside), Said::Compatible(beside, upper)];
+    sheet.state(numbers.pick(&across));
+    sheet.state(Said::Labelled(5, lower));
+    sheet.state(Said::Labelled(numbers.pick(&[5, 6, 6]), beside));
+    sheet.state(if turned { Said::Ordered(y, x) } else { Said::Ordered(x, y) });
+    ask_of_paths(numbers, &mut paths, &palette);
+    paths.sheet
+}
+
+/// Clashes below an ordering, of labels at both ends: F2 gives them, and so does F4.
+pub fn clash_by_order(numbers: &mut Numbers) -> Sheet {
     let depth = numbers.between(1, 6);
     linked(numbers, &[Link::Ordered, Link::Turned], depth, true)
 }
 
 /// Clashes by F3 alone: bounds in common, and ~ passed down along ≤.
 pub fn clash_by_f3(numbers: &mut Numbers) -> Sheet {
-    linked(numbers, &[Link::SharedBound, Link::SharedBound, Link::Compatible, Link::Ordered], 0, true)
+    linked(numbers, &[Link::SharedBound, Link::SharedBound, Link::Ordered], 0, true)
 }
 
 /// Clashes that come down by F4 from a stated ~, or from one that F3 derives.

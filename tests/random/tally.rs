@@ -1,5 +1,6 @@
 //! What was compared, counted: a count of 0 is a hole in the comparison.
 
+use crate::damage::Damage;
 use crate::sheets::Place;
 
 #[derive(Default)]
@@ -12,30 +13,31 @@ pub struct Tally {
     pub consistent: u64,
     /// By the kind of question, then by reply.
     pub replies: [[u64; 3]; 4],
-    /// Sheets refused that were damaged at this place.
-    pub places: [u64; PLACES.len()],
+    /// Sheets that were damaged at a place and refused there, by the refusal's number.
+    pub places: [[u64; 8]; PLACES.len()],
 }
 
-const PLACES: [(Place, &str); 19] = [
-    (Place::HeaderMap, "header map"),
-    (Place::VariableCount, "variable count"),
-    (Place::RecordCount, "record count"),
-    (Place::QuestionCount, "question count"),
-    (Place::RecordMap, "record's map"),
-    (Place::RecordSubject, "record's subject"),
-    (Place::RecordTarget, "record's target"),
-    (Place::RecordPartner, "record's partner"),
-    (Place::RecordFeature, "record's feature"),
-    (Place::RecordChild, "record's child"),
-    (Place::RecordLabel, "record's label"),
-    (Place::QuestionMap, "question's map"),
-    (Place::QuestionSubject, "question's subject"),
-    (Place::QuestionTarget, "question's target"),
-    (Place::QuestionPartner, "question's partner"),
-    (Place::QuestionFeature, "question's feature"),
-    (Place::QuestionChild, "question's child"),
-    (Place::QuestionLabel, "question's label"),
-    (Place::Behind, "behind the end"),
+/// Each place, its name, and the number by which a wrong value there is refused, if one can be wrong.
+const PLACES: [(Place, &str, Option<usize>); 19] = [
+    (Place::HeaderMap, "header map", Some(2)),
+    (Place::VariableCount, "variable count", Some(3)),
+    (Place::RecordCount, "record count", Some(4)),
+    (Place::QuestionCount, "question count", Some(4)),
+    (Place::RecordMap, "record's map", Some(5)),
+    (Place::RecordSubject, "record's subject", Some(6)),
+    (Place::RecordTarget, "record's target", Some(6)),
+    (Place::RecordPartner, "record's partner", Some(6)),
+    (Place::RecordFeature, "record's feature", None),
+    (Place::RecordChild, "record's child", Some(6)),
+    (Place::RecordLabel, "record's label", None),
+    (Place::QuestionMap, "question's map", Some(5)),
+    (Place::QuestionSubject, "question's subject", Some(6)),
+    (Place::QuestionTarget, "question's target", Some(6)),
+    (Place::QuestionPartner, "question's partner", Some(6)),
+    (Place::QuestionFeature, "question's feature", None),
+    (Place::QuestionChild, "question's child", Some(6)),
+    (Place::QuestionLabel, "question's label", None),
+    (Place::Behind, "behind the end", Some(7)),
 ];
 
 const KINDS: [&str; 4] = ["i <= j", "i ~ j", "i[f]j", "a(i)"];
@@ -64,9 +66,11 @@ impl Tally {
         self.replies.iter().map(|counts| counts[1]).sum()
     }
 
-    pub fn refused_at(&mut self, place: Place) {
-        if let Some(k) = PLACES.iter().position(|&(known, _)| known == place) {
-            self.places[k] += 1;
+    /// Counts a refusal that is told at the place of the damage.
+    pub fn refused_at(&mut self, damage: &Damage, outcome: u64) {
+        let (number, offset) = ((outcome >> 8 & 255) as usize, (outcome >> 24) as usize);
+        if let Some(k) = PLACES.iter().position(|&(place, ..)| place == damage.place && offset == damage.offset) {
+            self.places[k][number] += 1;
         }
     }
 
@@ -77,7 +81,9 @@ impl Tally {
         self.clashed += other.clashed;
         self.consistent += other.consistent;
         add_each(&mut self.refused, &other.refused);
-        add_each(&mut self.places, &other.places);
+        for (mine, theirs) in self.places.iter_mut().zip(&other.places) {
+            add_each(mine, theirs);
+        }
         for (mine, theirs) in self.replies.iter_mut().zip(&other.replies) {
             add_each(mine, theirs);
         }
@@ -91,8 +97,10 @@ impl Tally {
         for (kind, counts) in KINDS.iter().zip(&self.replies) {
             all.extend(REPLIES.iter().zip(counts).map(|(reply, &count)| (format!("{kind} {reply}"), count)));
         }
-        let places = PLACES.iter().zip(&self.places);
-        all.extend(places.map(|((_, name), &count)| (format!("refused, damaged at: {name}"), count)));
+        for ((place, name, number), counts) in PLACES.iter().zip(&self.places) {
+            let cut = (*place != Place::Behind).then_some(1);
+            all.extend(cut.iter().chain(number).map(|&k| (format!("refused by {k}: {name}"), counts[k])));
+        }
         all
     }
 }
