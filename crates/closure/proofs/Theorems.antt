@@ -5,7 +5,7 @@ use mathlib.Core.Bool.{Bool}
 use mathlib.Core.List.{List, [], ◌∷◌, ◌++◌}
 use mathlib.Core.Path.{◌≡◌, sym, ap, ◌∙◌}
 use Rattle.items.specs.declared.items.Statement.{Statement}
-use Rattle.items.specs.Statements.{AllName}
+use Rattle.items.specs.Statements.{Names, AllName}
 use Rattle.rules.specs.declared.clashes.Clash.{Clash}
 use Rattle.rules.specs.Facts.{Kind}
 use Rattle.rules.specs.Tables.{facts, count_facts}
@@ -23,7 +23,7 @@ use Rattle.answers.specs.Clashes.{ClashTold}
 use Rattle.answers.specs.Supports.{SingleLabels, SupportTold}
 use Rattle.answers.proofs.OneLabel.{single_labels_lem}
 use Rattle.derivation.specs.Stands.{PairsStand, Pairs, Deriving, DerivedFrom}
-use Rattle.closure.specs.Trials.{Trying, Standing, Tried}
+use Rattle.closure.specs.Trials.{Trying, Standing, Tried, Asking}
 
 -- groups made of a selection list
 module _ {n : ℕ} {subjects features children starts₀ ends₀ features₀ children₀ : List ℕ}
@@ -53,6 +53,10 @@ module _ {n : ℕ} {subjects features children starts₀ ends₀ features₀ chi
           groups = made_groups lawful grouping;
           spare = made_spare lawful grouping;
         }
+
+    pub may_ask : (work queue : List ℕ) (q : Statement) → work ≡ t → length queue ≡ queue_room → Names n q
+        → Asking n t work queue starts ends group_features group_children q
+    may_ask work queue q copied room named = record { copied = copied; trying = may_try queue room; names = named }
 
     -- statements that stand in the arrays
     module _ {st : List Statement} (names : AllName n st) (pairs : PairsStand st cells lefts rights)

@@ -61,7 +61,7 @@ impl Header {
     pub fn reply_count(self) -> usize
         ensures { result ≡ reply_count self }
     {
-        self.questions as usize
+        self.question_count() as usize
     }
 
     // How many bytes a fact table takes.

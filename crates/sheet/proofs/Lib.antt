@@ -5,3 +5,4 @@ pub mod Longest
 pub mod Theorems
 pub mod Beyond
 pub mod Inside
+pub mod Rests
