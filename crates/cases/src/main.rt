@@ -1,5 +1,5 @@
 // Runs the cases of the text on standard input, one to a line: `word name: byte byte ..`. The word says what is shown
-// of the sheet that the bytes are, behind the line's word and name. Empty lines and those with `#` in front are skipped.
+// of the sheet that the bytes are, behind the line's word and name. Any other line is skipped.
 #![tactic(auto)]
 
 mod checks;
@@ -7,16 +7,26 @@ mod lengths;
 mod readings;
 
 use std::alloc::Global;
-use std::io::{self, BufWriter, ErrorKind, Write};
+use std::io::{self, BufWriter, Write};
+
+// A number with one digit more, kept small.
+fn with_digit(value: u32, digit: u8) -> u32 {
+    value % 1000 * 10 + u32::from(digit) % 16
+}
+
+fn decimal(digits: &str) -> u8 {
+    let mut value = 0;
+    for digit in digits.bytes() {
+        value = with_digit(value, digit);
+    }
+    (value % 256) as u8
+}
 
 // The bytes of a sheet, as numbers that spaces part.
 fn bytes_of(alloc: Global, numbers: &str) -> io::Result<Vec<u8>> {
     let mut bytes = Vec::new(alloc);
     for number in numbers.split_ascii_whitespace() {
-        match number.parse() {
-            Ok(byte) => bytes.push(byte)?,
-            Err(_) => return Err(ErrorKind::InvalidData.into()),
-        }
+        bytes.push(decimal(number))?;
     }
     Ok(bytes)
 }
@@ -37,19 +47,20 @@ fn show(
         "longest" => lengths::show_longest(out, alloc, name),
         "outcome" => checks::show_outcome(out, alloc, name, bytes),
         "buffers" => checks::show_buffers(out, alloc, name, bytes),
-        _ => Err(ErrorKind::InvalidData.into()),
+        _ => Ok(()),
     }
 }
 
 // One line of the text.
 fn run(out: &mut impl Write, alloc: Global, line: &str) -> io::Result<()> {
-    if line.is_empty() || line.starts_with('#') {
-        return Ok(());
+    match line.split_once(':') {
+        None => Ok(()),
+        Some((name, numbers)) => {
+            let bytes = bytes_of(alloc, numbers)?;
+            let word = name.split_ascii_whitespace().next().unwrap_or("");
+            show(out, alloc, word, name, bytes.as_slice())
+        }
     }
-    let (name, numbers) = line.split_once(':').ok_or(ErrorKind::InvalidData)?;
-    let (word, _) = name.split_once(' ').ok_or(ErrorKind::InvalidData)?;
-    let bytes = bytes_of(alloc, numbers)?;
-    show(out, alloc, word, name, bytes.as_slice())
 }
 
 fn main(rt: HostRuntime) -> io::Result<()> {

@@ -10,7 +10,7 @@ use Rattle.headers.specs.declared.headers.Header.{Header}
 use Rattle.headers.specs.declared.headers.HeaderRead.{HeaderRead}
 use Rattle.headers.specs.Headers.{header_of, largest_table, reply_count, most_replies}
 use Rattle.sheet.specs.Sheets.{read_sheet, sheet_of}
-use Rattle.sheet.proofs.Theorems.{accepted_read, asked_count}
+use Rattle.sheet.proofs.Theorems.{accepted_read, asked_replies}
 use Rattle.outcomes.specs.Outcomes.{kind_in}
 use Rattle.outcomes.specs.Judged.{judged}
 use Rattle.outcomes.proofs.Judging.{accepted_fits}
@@ -25,7 +25,7 @@ pub count_read : (s : List ℕ) {h : Header} → HeaderRead.Is h ≡ header_of s
 count_read s {h} e (h', (asked, a)) =
     let read = (accepted_read s h' asked a).header_is in
     let same : h' ≡ h = cc in
-    asked_count s h' asked a ∙ ap reply_count same
+    asked_replies s h' asked a ∙ ap reply_count same
 
 pub header_there : (s : List ℕ) {q : Refusal} → HeaderRead.Refused q ≡ header_of s → IsAccepted (read_sheet s) → ⊥
 header_there s e (h, (asked, a)) =
@@ -34,7 +34,7 @@ header_there s e (h, (asked, a)) =
 
 -- and of these there are no more than there may be
 pub replies_few : (s : List ℕ) → IsAccepted (read_sheet s) → length (sheet_of s).asked ≤ most_replies
-replies_few s (h, (asked, a)) = omega (arith, asked_count s h asked a, replies_fit s h asked a)
+replies_few s (h, (asked, a)) = omega (arith, asked_replies s h asked a, replies_fit s h asked a)
 
 -- the buffers that are lent
 abbrev zeros : ℕ → List ℕ

@@ -10,7 +10,7 @@ use Rattle.headers.specs.declared.headers.Header.{Header}
 use Rattle.headers.specs.Headers.{size_for, table_size, reply_count}
 use Rattle.sheet.specs.declared.whole.SheetRead.{SheetRead}
 use Rattle.sheet.specs.Sheets.{sheet_of}
-use Rattle.sheet.proofs.Theorems.{accepted_variables, asked_count}
+use Rattle.sheet.proofs.Theorems.{accepted_variables, asked_replies}
 use Rattle.rules.specs.declared.verdicts.Verdict.{Verdict}
 use Rattle.rules.specs.Derived.{facts_of}
 use Rattle.rules.specs.Tables.{table_bytes}
@@ -78,7 +78,7 @@ module _ (b facts work replies : List ℕ) {h : Header} {asked : Cursor}
   replies_size =
       length-map (map (reply_to (sheet_of b)) (sheet_of b).asked) reply_number
       ∙ length-map (sheet_of b).asked (reply_to (sheet_of b))
-      ∙ asked_count b h asked fits.accepted
+      ∙ asked_replies b h asked fits.accepted
 
   pub checked_accepted : {facts' work' replies' : List ℕ} {o : Outcome} (size count : ℕ) → size ≡ table_size h
       → count ≡ reply_count h → Filled (sheet_of b) (take size work) (take count replies) facts' work' replies' o

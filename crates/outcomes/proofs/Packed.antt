@@ -1,5 +1,5 @@
 -- A packed outcome taken apart again.
-use Prim.Native.Nat.{ℕ, ◌<◌}
+use Prim.Native.Nat.{ℕ, ◌/◌, ◌<◌}
 use mathlib.Core.Path.{◌≡◌, refl}
 use native.Mathlib.Omega.{arith}
 use Rattle.fields.specs.declared.numbers.Variable.{Variable}
@@ -15,6 +15,10 @@ module _ (kind first second : ℕ) (small : kind < 256) where
   first_packed : first < 65536 → first_in (pack kind first second) ≡ first
   unfolding pack
   first_packed h = omega (arith, small, h)
+
+  rest_packed : first < 65536 → pack kind first second / 16777216 ≡ second
+  unfolding pack
+  rest_packed h = omega (arith, small, h)
 
   second_packed : first < 65536 → second < 65536 → second_in (pack kind first second) ≡ second
   unfolding pack
@@ -36,6 +40,11 @@ first_is o h = first_packed (kind_of o) (first_of o) (second_of o) (small_kind o
 pub second_is : (o : Outcome) → first_of o < 65536 → second_of o < 65536 → second_in (packed o) ≡ second_of o
 unfolding packed
 second_is o h h' = second_packed (kind_of o) (first_of o) (second_of o) (small_kind o) h h'
+
+-- all that stands above the first number is the second
+pub second_whole : (o : Outcome) → first_of o < 65536 → packed o / 16777216 ≡ second_of o
+unfolding packed
+second_whole o h = rest_packed (kind_of o) (first_of o) (second_of o) (small_kind o) h
 
 -- the number of each kind of outcome
 pub consistent_is_0 : (x y : ℕ) → kind_of (Outcome.Consistent x y) ≡ 0

@@ -12,7 +12,7 @@ use Rattle.rules.proofs.Tables.{table_length}
 use Rattle.outcomes.specs.Outcomes.{kind_in}
 use Rattle.promise.specs.Checks.{where_consistent, Returned}
 use Rattle.promise.specs.Promise.{IsAccepted}
-use Rattle.promise.proofs.Shown.{read, by_case, refused_apart}
+use Rattle.promise.proofs.Shown.{read, by_case}
 
 module _ {b facts work replies facts' work' replies' : List ℕ} {r : ℕ}
     (returned : Returned b facts work replies facts' work' replies' r) where

@@ -3,4 +3,5 @@ pub mod Shown
 pub mod Clashes
 pub mod Theorems
 pub mod Buffers
+pub mod Numbers
 pub mod Beyond

@@ -83,7 +83,7 @@ number_open Reply.Always = ((λ e. absurd (omega arith)), (λ e. cc))
 number_open Reply.Never = ((λ e. absurd (omega arith)), (λ e. cc))
 number_open Reply.Open = ((λ e. refl), (λ e. refl))
 
-small_number : (f : Fault) → number_of f < 65536
+pub small_number : (f : Fault) → number_of f < 65536
 small_number Fault.Cut = omega arith
 small_number Fault.HeaderMap = omega arith
 small_number Fault.VariableCount = omega arith

@@ -2,7 +2,7 @@
 use Rattle.std.specs.Prelude.{ℕ, ◌<◌, ◌≤◌, length, get_or, List, ◌≡◌}
 use Rattle.fields.specs.Limits.{most_variables, most_items}
 
--- three lists of one length, at most 1,024, that name variables below n
+-- three lists of one length, no longer than there may be records, that name variables below n
 pub record Selections (n : ℕ) (subjects features children : List ℕ) : Type 0 where
   pub few : n ≤ most_variables
   pub short : length subjects ≤ most_items

@@ -19,7 +19,7 @@ pub record Appended (i f j : ℕ) (ends features children ends' features' childr
   pub kept_feature : kept.feature ≡ get_or features (get_or ends i 0) 0
   pub kept_child : kept.child ≡ get_or children (get_or ends i 0) 0
 
--- the same of arrays of 128 groups and 1,152 places
+-- the same of arrays of all groups and places
 pub record Put (i f j : ℕ) (ends features children ends' features' children' : List ℕ) (kept : Kept) : Type 0 where
   pub added : Appended i f j ends features children ends' features' children' kept
   pub room : Room i ends features children

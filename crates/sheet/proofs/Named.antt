@@ -11,7 +11,7 @@ use Rattle.items.specs.declared.items.Item.{Item}
 use Rattle.items.specs.declared.items.Statement.{Statement}
 use Rattle.items.specs.Items.{items_of}
 use Rattle.items.specs.Statements.{bit_of, stated_if, statements_of, statement_of, Names, AllName}
-use Rattle.items.specs.Questions.{question_of, AllAsk}
+use Rattle.items.specs.Questions.{holds, question_of, query_of, AllAsk}
 use Rattle.items.proofs.Chains.{after_item}
 use Rattle.items.proofs.Lawful.{Reads, one_bit, item_spans}
 use Rattle.sheet.specs.declared.whole.SheetRead.{SheetRead}
@@ -43,13 +43,14 @@ module _ {place : Place} {s : List ℕ} {n : ℕ} {c next : Cursor} (x : Item) w
       either _ _ _ (λ e. record { holds = (r.subject, r.child e) }) λ e.
       record { holds = r.subject }
 
--- a question's item states just what it asks, and its map is the bit of that kind
+-- a question's item states one statement, its map is the bit of that kind, and whether this holds is what is asked
 pub question_alone : {s : List ℕ} {n : ℕ} {c next : Cursor} (x : Item) → Reads Place.Question s n c x next
     → (statements_of x ≡ statement_of x ∷ []) × (x.map ≡ bit_of (statement_of x))
-unfolding statements_of statement_of pick has same
+    × (query_of (question_of x) ≡ holds (statement_of x))
+unfolding statements_of statement_of question_of pick has same
 question_alone x r =
-    one_bit x.map r.lawful (λ m. rw m (refl, refl)) (λ m. rw m (refl, refl)) (λ m. rw m (refl, refl))
-    (λ m. rw m (refl, refl))
+    one_bit x.map r.lawful (λ m. rw m (refl, refl, refl)) (λ m. rw m (refl, refl, refl))
+    (λ m. rw m (refl, refl, refl)) (λ m. rw m (refl, refl, refl))
 
 module _ (s : List ℕ) (n : ℕ) where
   records_name : (k : ℕ) (c : Cursor) → Of (λ xs. AllName n (all_statements xs)) (items_of k Place.Record s n c)

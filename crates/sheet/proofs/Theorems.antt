@@ -52,12 +52,17 @@ module _ (s : List ℕ) (h : Header) (asked : Cursor) (e : read_sheet s ≡ Shee
   pub accepted_short : length s ≤ longest
   accepted_short = accepted_read.short
 
-  -- what it asks is as many as it gets replies
-  pub asked_count : length (sheet_of s).asked ≡ reply_count h
-  unfolding sheet_of sheet_at reply_count
+  -- it asks as many questions as its header says
+  pub asked_count : length (sheet_of s).asked ≡ h.questions
+  unfolding sheet_of sheet_at
   asked_count =
       let items = items_of h.questions Place.Question s h.variables asked in
       rw e (length-map items asks ∙ run_count Place.Question s _ _ asked _ accepted_read.questions_end)
+
+  -- so as many as it gets replies
+  pub asked_replies : length (sheet_of s).asked ≡ reply_count h
+  unfolding reply_count
+  asked_replies = asked_count
 
 -- no refusal is told behind the longest sheet
 pub refused_near : (s : List ℕ) (r : Refusal) → read_sheet s ≡ SheetRead.Refused r → r.at ≤ longest

@@ -82,7 +82,7 @@ selections_in (Statement.Compatibility i j) = 0
 selections_in (Statement.Selection i f j) = 1
 selections_in (Statement.Labelling i a) = 0
 
--- statements can be put into the lists: they name variables below n, and there is room for so many pairs and
+-- statements can be put into the lists: they name variables that there may be, and there is room for so many pairs and
 -- selections more
 pub record Putting (added : List Statement) (pairs selections : ℕ) (x : Lists) : Type 0 where
   pub named : AllName most_variables added

@@ -1,0 +1,70 @@
+-- What the number that a check returns tells besides: it has no bits but those of its kind and its two numbers, and the
+-- pair of a clash is the first.
+use Prim.Native.Nat.{ℕ, ◌/◌, ◌<◌, ◌≤◌}
+use lib.ListN.{length}
+use mathlib.Core.Bool.{true}
+use mathlib.Core.List.{List}
+use mathlib.Core.Logic.{◌⊎◌, inl, inr}
+use mathlib.Core.Path.{◌≡◌, ◌∙◌, sym}
+use native.Mathlib.Nat.{mul-le-mul}
+use native.Mathlib.Omega.{arith}
+use Rattle.fields.specs.declared.numbers.Cursor.{Cursor}
+use Rattle.fields.specs.Limits.{most_variables}
+use Rattle.headers.specs.declared.headers.Header.{Header}
+use Rattle.sheet.specs.declared.whole.SheetRead.{SheetRead}
+use Rattle.sheet.specs.Sheets.{sheet_of}
+use Rattle.sheet.proofs.Theorems.{accepted_read, accepted_variables}
+use Rattle.rules.specs.Clashes.{clashes_at}
+use Rattle.rules.specs.Derived.{facts_of}
+use Rattle.rules.specs.Facts.{ordered, compatible}
+use Rattle.rules.proofs.Clashing.{clash_least}
+use Rattle.rules.proofs.Counts.{count_bound}
+use Rattle.rules.proofs.Logic.{contrary}
+use Rattle.outcomes.specs.declared.outcomes.Outcome.{Outcome}
+use Rattle.outcomes.specs.Outcomes.{first_of, second_of, packed, kind_in, first_in, second_in}
+use Rattle.outcomes.proofs.Judging.{accepted_fits, refused_soon}
+use Rattle.outcomes.proofs.Packed.{second_is, second_whole}
+use Rattle.promise.specs.Checks.{of_refusal, Returned}
+use Rattle.promise.specs.Promise.{Means}
+use Rattle.promise.proofs.Clashes.{between}
+use Rattle.promise.proofs.Shown.{read, small_number, refused_number, accepted_number, by_case}
+
+-- of an outcome whose numbers take two bytes each
+alone : (o : Outcome) → first_of o < 65536 → second_of o < 65536 → packed o / 16777216 ≡ second_in (packed o)
+alone o few near = second_whole o few ∙ sym (second_is o few near)
+
+module _ {b facts work replies facts' work' replies' : List ℕ} {r : ℕ}
+    (returned : Returned b facts work replies facts' work' replies' r) where
+  few : (h : Header) (asked : Cursor) → read returned ≡ SheetRead.Accepted h asked → (sheet_of b).n ≤ most_variables
+  few h asked e =
+      let fits = accepted_fits b (length facts) (length work) (length replies) h asked e in
+      rw (accepted_variables b h asked fits.accepted) (accepted_read b h asked fits.accepted).heads.few
+
+  pub no_other_bits : r / 16777216 ≡ second_in r
+  no_other_bits =
+      by_case returned
+      (λ q e k. rw (refused_number returned q e)
+      (alone (of_refusal q) (small_number q.fault)
+      (omega (arith, refused_soon b (length facts) (length work) (length replies) q e))))
+      (λ h asked e is k.
+      let n = few h asked e in
+      let size = mul-le-mul n n in
+      let s = sheet_of b in
+      let facts = facts_of s.stated s.n in
+      rw (accepted_number returned h asked e, is)
+      (alone (Outcome.Consistent _ _) (omega (arith, size, count_bound s.n facts ordered))
+      (omega (arith, size, count_bound s.n facts compatible))))
+      (λ h asked i j e is k.
+      let s = sheet_of b in
+      let least = (clash_least s.stated s.n i.0 j.0).0 (between s i j is) in
+      rw (accepted_number returned h asked e, is)
+      (alone (Outcome.Clash i j) (omega (arith, few h asked e, least.row)) (omega (arith, few h asked e, least.column))))
+
+-- F5 applies to no pair before the one that a clash tells, row by row
+pub none_before : {b facts₀ work₀ replies₀ facts' replies' : List ℕ} {r : ℕ}
+    → Means b facts₀ work₀ replies₀ facts' replies' r → kind_in r ≡ 1
+    → (i j : ℕ) → (i < first_in r) ⊎ ((i ≡ first_in r) × (j < second_in r)) → j < (sheet_of b).n
+    → clashes_at (sheet_of b).stated (facts_of (sheet_of b).stated (sheet_of b).n) i j ≡ true → ⊥
+none_before means kind i j (inl above) column applies = contrary applies ((means.least kind).least_row i j above column)
+none_before means kind i j (inr (same, before)) column applies =
+    contrary applies (rw same ((means.least kind).least_column j before))
