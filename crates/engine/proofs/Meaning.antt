@@ -15,7 +15,7 @@ use Rattle.items.specs.Questions.{Query}
 use Rattle.items.specs.Statements.{All}
 use Rattle.sheet.specs.declared.whole.SheetRead.{SheetRead}
 use Rattle.sheet.specs.Sheets.{Sheet, read_sheet, sheet_of}
-use Rattle.sheet.proofs.Theorems.{accepted_sheet, accepted_read, accepted_variables}
+use Rattle.sheet.proofs.Theorems.{accepted_sheet, accepted_few}
 use Rattle.rules.specs.declared.verdicts.Verdict.{Verdict}
 use Rattle.rules.specs.Demand.{Demand2}
 use Rattle.rules.specs.Clashes.{clashes}
@@ -100,8 +100,7 @@ module _ {b facts₀ work₀ replies₀ facts' work' replies' : List ℕ} {r : �
         }
 
     variables_few : (sheet_of b).n < 65536
-    variables_few =
-        omega (arith, accepted_variables b h asked sheet_read, (accepted_read b h asked sheet_read).heads.few)
+    variables_few = omega (arith, accepted_few b h asked sheet_read)
 
     clash_means : (i j : Variable) → verdict_of (sheet_of b) ≡ Verdict.Clash i j → kind_in r ≡ 1
         → Means b facts₀ work₀ replies₀ facts' replies' r

@@ -13,7 +13,7 @@ use Rattle.fields.specs.Limits.{most_variables}
 use Rattle.headers.specs.declared.headers.Header.{Header}
 use Rattle.sheet.specs.declared.whole.SheetRead.{SheetRead}
 use Rattle.sheet.specs.Sheets.{sheet_of}
-use Rattle.sheet.proofs.Theorems.{accepted_read, accepted_variables}
+use Rattle.sheet.proofs.Theorems.{accepted_few}
 use Rattle.rules.specs.Clashes.{clashes_at}
 use Rattle.rules.specs.Derived.{facts_of}
 use Rattle.rules.specs.Facts.{ordered, compatible}
@@ -22,12 +22,12 @@ use Rattle.rules.proofs.Counts.{count_bound}
 use Rattle.rules.proofs.Logic.{contrary}
 use Rattle.outcomes.specs.declared.outcomes.Outcome.{Outcome}
 use Rattle.outcomes.specs.Outcomes.{first_of, second_of, packed, kind_in, first_in, second_in}
-use Rattle.outcomes.proofs.Judging.{accepted_fits, refused_soon}
+use Rattle.outcomes.proofs.Judging.{accepted_fits}
 use Rattle.outcomes.proofs.Packed.{second_is, second_whole}
 use Rattle.promise.specs.Checks.{of_refusal, Returned}
 use Rattle.promise.specs.Promise.{Means}
 use Rattle.promise.proofs.Clashes.{between}
-use Rattle.promise.proofs.Shown.{read, small_number, refused_number, accepted_number, by_case}
+use Rattle.promise.proofs.Shown.{read, small_number, place_small, refused_number, accepted_number, by_case}
 
 -- of an outcome whose numbers take two bytes each
 alone : (o : Outcome) → first_of o < 65536 → second_of o < 65536 → packed o / 16777216 ≡ second_in (packed o)
@@ -38,14 +38,13 @@ module _ {b facts work replies facts' work' replies' : List ℕ} {r : ℕ}
   few : (h : Header) (asked : Cursor) → read returned ≡ SheetRead.Accepted h asked → (sheet_of b).n ≤ most_variables
   few h asked e =
       let fits = accepted_fits b (length facts) (length work) (length replies) h asked e in
-      rw (accepted_variables b h asked fits.accepted) (accepted_read b h asked fits.accepted).heads.few
+      accepted_few b h asked fits.accepted
 
   pub no_other_bits : r / 16777216 ≡ second_in r
   no_other_bits =
       by_case returned
       (λ q e k. rw (refused_number returned q e)
-      (alone (of_refusal q) (small_number q.fault)
-      (omega (arith, refused_soon b (length facts) (length work) (length replies) q e))))
+      (alone (of_refusal q) (small_number q.fault) (place_small returned q e)))
       (λ h asked e is k.
       let n = few h asked e in
       let size = mul-le-mul n n in

@@ -134,16 +134,18 @@ module _ {b facts work replies facts' work' replies' : List ℕ} {r : ℕ}
       go (SheetRead.Refused q) e = stopped q e (rw (refused_number q e) (kind_is (of_refusal q)))
       go (SheetRead.Accepted h asked) e = told h asked e _ refl
 
+  pub place_small : (q : Refusal) → read ≡ SheetRead.Refused q → q.at < 65536
+  place_small q e = omega (arith, refused_soon b (length facts) (length work) (length replies) q e)
+
   -- a refusal is told by number and place, and all is left as it was
   pub refusal_told_lem : (q : Refusal) → read ≡ SheetRead.Refused q
       → RefusalTold q facts work replies facts' work' replies' r
   refusal_told_lem q e =
       let is = refused_number q e in
       let few : number_of q.fault < 65536 = small_number q.fault in
-      let near : q.at < 65536 = omega (arith, refused_soon b (length facts) (length work) (length replies) q e) in
       record {
         number = rw is (first_is (of_refusal q) few);
-        place = rw is (second_is (of_refusal q) few near);
+        place = rw is (second_is (of_refusal q) few (place_small q e));
         facts_kept = rw (returned.buffers.facts_are, e) refl;
         work_kept = rw (returned.buffers.work_is, e) refl;
         replies_kept = rw (returned.buffers.replies_are, e) refl;

@@ -5,4 +5,3 @@ pub mod Longest
 pub mod Theorems
 pub mod Beyond
 pub mod Inside
-pub mod Rests

@@ -6,6 +6,7 @@ use lib.ListN.{length, length-map}
 use Rattle.fields.specs.declared.numbers.Cursor.{Cursor}
 use Rattle.fields.specs.declared.refusals.Place.{Place}
 use Rattle.fields.specs.declared.refusals.Refusal.{Refusal}
+use Rattle.fields.specs.Limits.{most_variables}
 use Rattle.fields.proofs.Chains.{told}
 use Rattle.headers.specs.declared.headers.Header.{Header}
 use Rattle.headers.specs.Headers.{reply_count}
@@ -41,6 +42,10 @@ module _ (s : List ℕ) (h : Header) (asked : Cursor) (e : read_sheet s ≡ Shee
   pub accepted_variables : (sheet_of s).n ≡ h.variables
   unfolding sheet_at
   accepted_variables = ap (λ x. x.n) accepted_sheet
+
+  -- and no more of them than there may be
+  pub accepted_few : (sheet_of s).n ≤ most_variables
+  accepted_few = rw accepted_variables accepted_read.heads.few
 
   pub accepted_stated : AllName h.variables (sheet_of s).stated
   accepted_stated = rw (← accepted_variables) (names_below s).stated
