@@ -1,14 +1,8 @@
 -- With each turn one more variable is marked.
-use Rattle.std.proofs.Common.{ℕ, ◌-◌, ◌<◌, ◌≤◌, ◌≡◌, get_or}
+use Rattle.std.proofs.Common.{ℕ, ◌<◌, ◌≡◌, get_or, false}
 use Rattle.facts.specs.Insertion.{mark_of}
 use Rattle.facts.proofs.insertion.read_column.Given as goal
 
 abbrev pub invariant-loop-x : goal.invariant-loop-x
 invariant-loop-x l =
-    record {
-      inside : l.x ≤ l.n;
-      marked : (k : ℕ) → k < l.x → get_or l.column k 0 ≡ mark_of l.n l.t l.w l.u l.v k;
-    }
-
-abbrev pub decreases-loop-x : goal.decreases-loop-x
-decreases-loop-x l = l.n - l.x
+    (k : ℕ) → k < l.x → get_or l.column k false ≡ mark_of l.table.n l.table.cells.now l.w l.u l.v k

@@ -1,14 +1,8 @@
 -- With each turn one more cell of the row is read.
-use Rattle.std.proofs.Common.{ℕ, ◌-◌, ◌<◌, ◌≤◌, ◌≡◌, get_or}
+use Rattle.std.proofs.Common.{ℕ, ◌<◌, ◌≡◌, get_or}
 use Rattle.facts.specs.Insertion.{cell_taken_at}
 use Rattle.facts.proofs.insertion.read_row.Given as goal
 
 abbrev pub invariant-loop-y : goal.invariant-loop-y
 invariant-loop-y l =
-    record {
-      inside : l.y ≤ l.n;
-      taken : (k : ℕ) → k < l.y → get_or l.row k 0 ≡ cell_taken_at l.n l.t l.w l.v k;
-    }
-
-abbrev pub decreases-loop-y : goal.decreases-loop-y
-decreases-loop-y l = l.n - l.y
+    (k : ℕ) → k < l.y → get_or l.row k 0 ≡ cell_taken_at l.table.n l.table.cells.now l.w l.v k
