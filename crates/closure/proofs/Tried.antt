@@ -1,6 +1,6 @@
 -- What a trial tells: whether the statements with the question clash.
 use Prim.Native.Nat.{ℕ}
-use lib.ListN.{get_or}
+use lib.ListN.{length}
 use mathlib.Core.Bool.{Bool, true}
 use mathlib.Core.List.{List, [], ◌∷◌, ◌++◌}
 use mathlib.Core.Logic.{⊎_elim}
@@ -18,9 +18,11 @@ use Rattle.rules.proofs.Lists.{all_with}
 use Rattle.rules.proofs.More.{still, last_stated, stated_of}
 use Rattle.rules.proofs.Logic.{both, first_of_and, second_of_and, decided, contrary, same_tests}
 use Rattle.rules.proofs.Tables.{fact_row, fact_column}
-use Rattle.table.specs.Queue.{first_of, second_of, Queued}
+use Rattle.table.specs.Queue.{entry_at, Queued}
 use Rattle.facts.specs.Additions.{Facts}
+use Rattle.selections.specs.declared.grouped.Groups.{Groups}
 use Rattle.selections.specs.Stands.{Selected, SelectionsStand}
+use Rattle.labels.specs.declared.spread.Spread.{Spread}
 use Rattle.labels.specs.Labels.{NoLabelling}
 use Rattle.answers.proofs.OneLabel.{fewer_closed}
 use Rattle.derivation.proofs.Equal.{derived_framed, derived_stated, derived_descends, settled_derived}
@@ -63,11 +65,12 @@ module _ (n : ℕ) (st : List Statement) (q : Statement) (all : AllName n st) (n
       by_pair i j (stays compatible i j (first_of_and _ _ least.applies))
       (second_of_and (facts_of st n compatible i j) _ least.applies)
 
-module _ {n : ℕ} {st : List Statement} {closed starts ends features children counts labels : List ℕ} {q : Statement}
+module _ {n : ℕ} {st : List Statement} {closed : List ℕ} {groups : Groups} {spreads : List Spread}
+    {q : Statement}
     {selected : Selected} {P : Facts} {r : Bool}
-    (consistent : Consistent n closed starts ends features children counts labels st) (names : Names n q)
-    (states : States n st q selected P) (searched : Searched n selected P closed counts labels r) where
-  abbrev stands : Standing n closed starts ends features children counts labels st
+    (consistent : Consistent n closed groups spreads st) (names : Names n q)
+    (states : States n st q selected P) (searched : Searched n selected P closed spreads r) where
+  abbrev stands : Standing n closed groups spreads st
   stands = consistent.stands
 
   abbrev with_q : List Statement
@@ -108,19 +111,19 @@ module _ {n : ℕ} {st : List Statement} {closed starts ends features children c
   less_differ i j p = differ_of with_q i j p λ a b s s' d. differ_by (labelled i a s) (labelled j b s') d
 
   -- an entry of the queue that clashes
-  entry_clash : QueuedClash n searched.table st searched.queue searched.from searched.tail
+  entry_clash : QueuedClash n searched.table st searched.queue searched.from
       → clashes with_q n ≡ true
   unfolding entry_clashes clashes_at
   entry_clash e =
-      let entry = get_or searched.queue e.at 0 in
-      let alike : Holds (facts n searched.table) compatible (first_of entry) (second_of entry) =
+      let entry = entry_at searched.queue e.at in
+      let alike : Holds (facts n searched.table) compatible entry.first.0 entry.second.0 =
       first_of_and _ _ e.applies in
-      by_pair n st q stands.names names (first_of entry) (second_of entry) (rw tried_table at alike)
-      (second_of_and (facts n searched.table compatible (first_of entry) (second_of entry)) _ e.applies)
+      by_pair n st q stands.names names entry.first.0 entry.second.0 (rw tried_table at alike)
+      (second_of_and (facts n searched.table compatible entry.first.0 entry.second.0) _ e.applies)
 
   -- a clash is of a pair in the queue
   pair_queued : (i j : ℕ) → Holds (facts_of with_q n) compatible i j → labels_differ st i j ≡ true
-      → Queued searched.queue searched.from searched.tail i j
+      → Queued searched.queue searched.from (length searched.queue) i j
   unfolding clashes_at
   pair_queued i j p d =
       ⊎_elim
@@ -133,7 +136,7 @@ module _ {n : ℕ} {st : List Statement} {closed starts ends features children c
       (searched.tries.queued compatible i j (rw tried_table p))
 
   clash_entry : clashes with_q n ≡ true
-      → QueuedClash n searched.table st searched.queue searched.from searched.tail
+      → QueuedClash n searched.table st searched.queue searched.from
   unfolding entry_clashes clashes_at
   clash_entry p =
       clashing with_q n p λ i j least.
