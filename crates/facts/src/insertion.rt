@@ -12,7 +12,7 @@ use fields::MOST_VARIABLES;
 use table::{Table, lacks, says_ordered};
 
 // Whether x is below u and lacks w at v.
-#[tactic(auto, unfolding(crate::specs::Insertion::mark_of, rules::specs::Connectives::◌and◌))]
+#[tactic(auto, using(crate::proofs::Inserting::marks))]
 fn mark(table: &Table<'_>, w: u8, u: usize, v: usize, x: usize) -> bool
     requires below { Cell table.now.n table.now.cells.now x u }
     requires lacking { Cell table.now.n table.now.cells.now x v }

@@ -29,7 +29,8 @@ impl Growth<'_> {
         ensures { self.new ≡ with_table self.old other.now.cells.now }
     {
         for k in from..self.queue.len() {
-            self.restore_entry(other, self.queue[k]);
+            let entry = self.queue[k];
+            self.restore_entry(other, entry);
         }
     }
 

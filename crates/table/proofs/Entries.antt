@@ -68,8 +68,8 @@ module _ (queue : List Entry) (e : Entry) where
   pushed_there = ap (entry_at pushed) (omega arith) ∙ get_or-append-add queue (e ∷ []) 0 no_entry
 
 -- the entry of x and y behind the entries so far
-module _ (n : ℕ) (queue : List Entry) (x y : ℕ) where
-  pub pushed_entry : x < n → y < n → IsEntry n (entry_at (queue ++ entry x y ∷ []) (length queue))
+module _ (queue : List Entry) (x y : ℕ) where
+  pub pushed_entry : {n : ℕ} → x < n → y < n → IsEntry n (entry_at (queue ++ entry x y ∷ []) (length queue))
   pushed_entry h g = rw (pushed_there queue (entry x y)) (record { first = h; second = g })
 
   pub pushed_queued : Queued (queue ++ entry x y ∷ []) (length queue) (length queue + 1) x y

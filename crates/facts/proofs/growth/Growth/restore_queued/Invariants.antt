@@ -2,7 +2,7 @@
 use Rattle.std.proofs.Common.{◌≡◌}
 use Rattle.facts.specs.Growth.{state_of, with_table}
 use Rattle.facts.specs.Restoring.{Restoring}
-use Rattle.facts.proofs.restoring.Growth.restore_queued.Given as goal
+use Rattle.facts.proofs.growth.Growth.restore_queued.Given as goal
 
 abbrev pub invariant-loop-k : goal.invariant-loop-k
 invariant-loop-k l =
