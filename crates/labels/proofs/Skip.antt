@@ -18,7 +18,7 @@ use Rattle.rules.proofs.More.{stated_of}
 use Rattle.rules.proofs.Clashing.{differ_of, clashing}
 use Rattle.labels.specs.declared.spread.Spread.{Spread}
 use Rattle.labels.specs.Labels.{LabelsAt, LabelsStand}
-use Rattle.labels.specs.Spreads.{with_labels, spread_at, spread_below, can_clash}
+use Rattle.labels.specs.Spreads.{with_labels, spread_below, can_clash}
 use Rattle.labels.proofs.Kept.{label_of}
 
 -- every label that st states is b
@@ -45,34 +45,33 @@ module _ (m : ℕ) (st : List Statement) where
   up_to P here below i a h s =
       last_or_before i m h (λ e. here a (subst (λ k. Stated st (labelling k a)) e s)) (λ b. below i a b s)
 
-  first_means : (s : Spread) → LabelsAt st m s → Means m st Spread.Nothing → Means (suc m) st s
-  first_means Spread.Nothing (LabelsAt.none at) means = up_to (λ a. ⊥) at means
-  first_means (Spread.One b) (LabelsAt.one at) means = up_to (λ a. a ≡ b.0) at.only (λ i a h s. absurd (means i a h s))
-  first_means Spread.Several at means = tt
+  first_means : {s : Spread} → LabelsAt st m s → Means m st Spread.Nothing → Means (suc m) st s
+  first_means (LabelsAt.none none) means = up_to (λ a. ⊥) none means
+  first_means (LabelsAt.one {a = b} one) means = up_to (λ a. a ≡ b.0) one.only (λ i a h s. absurd (means i a h s))
+  first_means (LabelsAt.several two) means = tt
 
-  one_means : (b : Label) (s : Spread) → LabelsAt st m s → Means m st (Spread.One b)
+  one_means : {s : Spread} (b : Label) → LabelsAt st m s → Means m st (Spread.One b)
       → Means (suc m) st (with_labels (Spread.One b) s)
   unfolding with_labels pick
-  one_means b Spread.Nothing (LabelsAt.none at) means = up_to (λ a. a ≡ b.0) (λ a s. absurd (at a s)) means
-  one_means b (Spread.One c) (LabelsAt.one at) means =
+  one_means b (LabelsAt.none none) means = up_to (λ a. a ≡ b.0) (λ a s. absurd (none a s)) means
+  one_means b (LabelsAt.one {a = c} one) means =
       decided (same b.0 c.0)
-      (λ p. rw p (up_to (λ a. a ≡ b.0) (λ a s. at.only a s ∙ sym (same_true _ _ p)) means))
+      (λ p. rw p (up_to (λ a. a ≡ b.0) (λ a s. one.only a s ∙ sym (same_true _ _ p)) means))
       (λ p. rw p tt)
-  one_means b Spread.Several at means = tt
+  one_means b (LabelsAt.several two) means = tt
 
-  more_means : (s s' : Spread) → LabelsAt st m s' → Means m st s → Means (suc m) st (with_labels s s')
+  more_means : {s' : Spread} (s : Spread) → LabelsAt st m s' → Means m st s → Means (suc m) st (with_labels s s')
   unfolding with_labels
-  more_means Spread.Nothing s' at means = first_means s' at means
-  more_means (Spread.One b) s' at means = one_means b s' at means
-  more_means Spread.Several s' at means = tt
+  more_means Spread.Nothing at means = first_means at means
+  more_means (Spread.One b) at means = one_means b at means
+  more_means Spread.Several at means = tt
 
 spread_means : {n : ℕ} {st : List Statement} {spreads : List Spread} → LabelsStand n st spreads
     → (m : ℕ) → m ≤ n → Means m st (spread_below m spreads)
 unfolding spread_below
 spread_means stand zero h = λ i a g s. absurd (omega arith)
 spread_means {n} {st} {spreads} stand (suc m) h =
-    more_means m st (spread_below m spreads) (spread_at spreads m) (stand.at m (omega arith))
-    (spread_means stand m (omega arith))
+    more_means m st (spread_below m spreads) (stand.at m (omega arith)) (spread_means stand m (omega arith))
 
 -- with a question behind the statements
 by_spread : (n : ℕ) (st : List Statement) (q : Statement) → AllName n (st ++ (q ∷ [])) → (s : Spread) → Means n st s
