@@ -127,7 +127,8 @@ pub fn run(growth: &mut Growth, groups: &Groups)
 {
     let mut head = 0;
     while head < growth.queue.len() {
-        visit(growth, groups, growth.queue[head]);
+        let entry = growth.queue[head];
+        visit(growth, groups, entry);
         head += 1;
     }
 }
