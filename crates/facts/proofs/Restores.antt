@@ -16,7 +16,13 @@ use Rattle.table.proofs.Entries.{first_or_later}
 use Rattle.table.proofs.Stores.{store_there, store_elsewhere, there_or, store_shape}
 use Rattle.facts.specs.Restoring.{Restoring}
 
-module _ {n : ℕ} {other t : List ℕ} {queue : List Entry} {from : ℕ} (restoring : Restoring n other (state t queue) from) where
+module _ {n : ℕ} {other : List ℕ} {s : State} {from : ℕ} (restoring : Restoring n other s from) where
+  abbrev t : List ℕ
+  t = s.table
+
+  abbrev queue : List Entry
+  queue = s.queue
+
   -- at the end of the queue
   pub restored : length queue ≤ from → t ≡ other
   restored h =

@@ -26,7 +26,8 @@ impl Growth<'_> {
     fn restore_queued(&mut self, other: &Table<'_>, from: usize)
         requires sizes { other.now.n ≡ self.old.table.n }
         requires restoring { Restoring self.old.table.n other.now.cells.now (state_of self.old) from }
-        ensures { self.new ≡ with_table self.old other.now.cells.now }
+        ensures table { self.new.table.cells.now ≡ other.now.cells.now }
+        ensures same { IsSame self.old self.new }
     {
         for k in from..self.queue.len() {
             let entry = self.queue[k];
