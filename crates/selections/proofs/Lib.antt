@@ -2,4 +2,6 @@
 pub mod Counting
 pub mod Storing
 pub mod Steps
+pub mod Appended
+pub mod Stands
 pub mod Theorems

@@ -21,7 +21,7 @@ impl Groups {
     {
         let at = self.groups[i].end;
         let kept = Kept {
-            at: at,
+            at,
             child: self.children[at],
         };
         self.children[at] = child;
