@@ -21,7 +21,7 @@ use Rattle.selections.specs.declared.grouped.Groups.{Groups}
 use Rattle.selections.specs.Groups.{Grouped}
 use Rattle.derivation.specs.declared.pairs.Pair.{Pair}
 use Rattle.derivation.specs.Settled.{Starting, Settled}
-use Rattle.derivation.specs.Stands.{Paired, DerivedFrom, InsertingPairs, Deriving}
+use Rattle.derivation.specs.Stands.{SaidBy, Paired, DerivedFrom, InsertingPairs, Deriving}
 use Rattle.derivation.proofs.Equal.{derived_framed, derived_stated, derived_descends, settled_derived}
 
 -- 3 says both
@@ -29,6 +29,11 @@ says_both : (kind : Kind) → says kind 3 ≡ true
 unfolding says same less ◌or◌
 says_both ordered = refl
 says_both compatible = refl
+
+-- one stated pair, with its variables as they were read
+pub pair_steps : {n m : ℕ} {s s' : State} (pair : Pair) (a b : ℕ) → m ≡ n → a ≡ pair.left.0 → b ≡ pair.right.0
+    → Steps m (Said pair.cell a b) s s' → Steps n (SaidBy pair) s s'
+pair_steps pair a b same left right steps = rw (← same, ← left, ← right) steps
 
 -- a table of no facts, and a queue without entries
 module _ (n : ℕ) (t₀ t : List ℕ) (square : length t₀ ≡ n * n) (cleared : t ≡ replicate (length t₀) 0)

@@ -67,8 +67,8 @@ module _ {n : ℕ} {s : State} {groups : Groups}
           }
 
       from_queue : (kind : Kind) (i j : ℕ) → Holds (facts n s'.table) kind i j
-          → Queued s'.queue head length s'.queue i j
-          → Queued s''.queue (head + 1) length s''.queue i j ⊎ Handed chosen (facts n s''.table) kind i j
+          → Queued s'.queue head (length s'.queue) i j
+          → Queued s''.queue (head + 1) (length s''.queue) i j ⊎ Handed chosen (facts n s''.table) kind i j
       from_queue kind i j p q =
           first_or_later q
           (λ a b.

@@ -34,7 +34,7 @@ fn seek(table: &Table, groups: &Groups, w: u8, f: Feature, i: usize, places: Ran
         (NoneNew table.now.n table.now.cells.now groups.now w f.0 i places.start places.end)
         (FirstNew table.now.n table.now.cells.now groups.now w f.0 i places.start places.end) }
 {
-    for at in places {
+    for at in places.start..places.end {
         if is_new(table, groups, w, f, i, at) {
             return Some(at);
         }
@@ -69,7 +69,7 @@ fn seek_row(
         (NoRowNew table.now.n table.now.cells.now groups.now w places.start places.end rows.start rows.end)
         (NextRow table.now.n table.now.cells.now groups.now w places.start places.end rows.start rows.end) }
 {
-    for at in rows {
+    for at in rows.start..rows.end {
         let child = groups.children[at];
         if seek(
             table,
