@@ -54,17 +54,17 @@ has_all kind cell w h g e p =
     (λ q. absurd (contrary (ap not q) e))
 
 -- the mark of a variable, by whether it is below u
-pub mark_above : (n : ℕ) (t : List ℕ) (w u v x : ℕ) → says ordered (cell_at n t x u) ≡ false
+pub mark_not_below : (n : ℕ) (t : List ℕ) (w u v x : ℕ) → says ordered (cell_at n t x u) ≡ false
     → mark_of n t w u v x ≡ false
 unfolding mark_of ◌and◌
-mark_above n t w u v x e = rw e
+mark_not_below n t w u v x e = rw e
 
 pub mark_below : (n : ℕ) (t : List ℕ) (w u v x : ℕ) → says ordered (cell_at n t x u) ≡ true
     → mark_of n t w u v x ≡ is_lacking (cell_at n t x v) w
 unfolding mark_of ◌and◌
 mark_below n t w u v x e = rw e
 
-pub ruleset marks = (mark_above, mark_below)
+pub ruleset marks = (mark_not_below, mark_below)
 
 -- what a cell that is looked at lacks, and what it says
 pub ruleset lacking = (lacking_positive, has_all, fact_said)
