@@ -6,7 +6,6 @@ use mathlib.Core.List.{List, [], ◌∷◌, ◌++◌}
 use mathlib.Core.Logic.{⊎_elim}
 use mathlib.Core.Path.{◌≡◌, refl, subst}
 use native.Mathlib.Omega.{arith}
-use Rattle.fields.specs.Fields.{variable}
 use Rattle.fields.specs.Tests.{less, same}
 use Rattle.items.specs.declared.items.Statement.{Statement}
 use Rattle.items.specs.Statements.{Names, AllName}
@@ -21,7 +20,7 @@ use Rattle.facts.proofs.Sets.{among_none}
 use Rattle.selections.proofs.Appended.{entries_of, single, below_both, at_single, at_first, at_second, at_either}
 use Rattle.selections.proofs.Stands.{selection_in}
 use Rattle.derivation.specs.declared.pairs.Pair.{Pair}
-use Rattle.derivation.specs.Stands.{pair_of, no_pair, pair_at, Pairs, SaidBy, Paired, PairsStand}
+use Rattle.derivation.specs.Stands.{pair_of, no_pair, Pairs, SaidBy, Paired, PairsStand}
 
 -- the cell of a kind alone
 abbrev pub kind_cell : Kind → ℕ

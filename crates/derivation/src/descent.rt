@@ -28,7 +28,14 @@ fn is_new(table: &Table, groups: &Groups, w: u8, f: Feature, i: usize, at: usize
 }
 
 // The first such place of these.
-fn seek(table: &Table, groups: &Groups, w: u8, f: Feature, i: usize, places: Range<usize>) -> Option<usize>
+fn seek(
+    table: &Table,
+    groups: &Groups,
+    w: u8,
+    f: Feature,
+    i: usize,
+    places: Range<usize>,
+) -> Option<usize>
     requires { Seeking table.now.n table.now.cells.now groups.now i places.start places.end }
     ensures { MatchOption result
         (NoneNew table.now.n table.now.cells.now groups.now w f.0 i places.start places.end)
@@ -96,7 +103,13 @@ fn hand_down(growth: &mut Growth, groups: &Groups, w: u8, u: usize, v: usize)
     let rows = groups.groups[u];
     let others = groups.groups[v];
     let mut from = rows.start;
-    while let Some(at) = seek_row(&growth.table, groups, w, from..rows.end, others.start..others.end) {
+    while let Some(at) = seek_row(
+        &growth.table,
+        groups,
+        w,
+        from..rows.end,
+        others.start..others.end,
+    ) {
         let child = groups.children[at];
         tell_all(growth, groups, w, child.feature, child.variable.index(), v);
         from = at + 1;
