@@ -8,18 +8,19 @@ use Rattle.std.specs.Prelude.{None, Some}
 use Rattle.fields.proofs.Choice.{chosen, passed}
 use Rattle.items.specs.declared.items.Statement.{Statement}
 use Rattle.rules.specs.declared.clashes.Clash.{Clash}
-use Rattle.rules.specs.Facts.{compatible, Relation}
+use Rattle.rules.specs.declared.kinds.Kind.{Kind}
+use Rattle.rules.specs.Facts.{Relation}
 use Rattle.rules.specs.Clashes.{labels_differ, clashes_at, clash_between, clash_in_row, clash_in_rows}
 use Rattle.rules.proofs.Logic.{both}
 use Rattle.answers.proofs.Logic.{fails_first, fails_second}
 
 -- F5 applies to i and j, or not for want of the one or the other
 module _ (st : List Statement) (r : Relation) (i j : ℕ) where
-  pub applies : r compatible i j ≡ true → labels_differ st i j ≡ true → clashes_at st r i j ≡ true
+  pub applies : r Kind.Compatible i j ≡ true → labels_differ st i j ≡ true → clashes_at st r i j ≡ true
   unfolding clashes_at
   applies p q = both p q
 
-  pub not_alike : r compatible i j ≡ false → clashes_at st r i j ≡ false
+  pub not_alike : r Kind.Compatible i j ≡ false → clashes_at st r i j ≡ false
   unfolding clashes_at
   not_alike p = fails_first _ p
 

@@ -6,7 +6,7 @@ ghost use Rattle.answers.specs.Clashes.{RowTold, ClashTold, LabelClashTold};
 use crate::cells::has_fact;
 use fields::{MOST_VARIABLES, Variable};
 use labels::{has_other, labels_differ};
-use rules::Clash;
+use rules::{Clash, Kind};
 
 // The least column at which row i has a clash.
 fn clash_in_row(
@@ -26,7 +26,7 @@ fn clash_in_row(
     while 0 < left {
         let at = n - left;
         left -= 1;
-        if has_fact(t, n, true, i, at) {
+        if has_fact(t, n, Kind::Compatible, i, at) {
             if labels_differ(counts, labels, i, at) {
                 return Some(Clash {
                     first: Variable(i as u8),
@@ -76,7 +76,7 @@ pub fn label_clashes(
     let mut left = n;
     while 0 < left {
         left -= 1;
-        if has_fact(t, n, true, i, left) {
+        if has_fact(t, n, Kind::Compatible, i, left) {
             if has_other(counts, labels, left, a) {
                 return true;
             }

@@ -15,9 +15,9 @@ use facts::{insert, restore};
 use fields::MOST_VARIABLES;
 use items::Statement;
 use labels::{Spread, can_clash, labels_differ};
-use rules::Clash;
+use rules::{Clash, Kind};
 use selections::{PLACES, put, take_out};
-use table::{ROOM, first_of, look, push, says_compatible, second_of, wide};
+use table::{ROOM, first_of, look, push, says, second_of, wide};
 
 // Adds to a closed table what w says of i and j, and all that follows: how many entries were queued.
 fn try_fact(
@@ -96,7 +96,7 @@ fn clashes_at(
 {
     let i = first_of(entry);
     let j = second_of(entry);
-    if says_compatible(look(t, n, i, j)) {
+    if says(Kind::Compatible, look(t, n, i, j)) {
         return labels_differ(counts, labels, i, j);
     }
     false

@@ -11,7 +11,8 @@ use Rattle.items.specs.declared.items.Statement.{Statement}
 use Rattle.items.specs.Statements.{Names, AllName}
 use Rattle.rules.specs.Connectives.{◌or◌}
 use Rattle.rules.specs.Stated.{ordering, compatibility}
-use Rattle.rules.specs.Facts.{Kind, ordered, compatible, fact}
+use Rattle.rules.specs.declared.kinds.Kind.{Kind}
+use Rattle.rules.specs.Facts.{fact}
 use Rattle.rules.specs.Tables.{says}
 use Rattle.rules.proofs.Logic.{contrary}
 use Rattle.rules.proofs.More.{still, stated_of}
@@ -23,13 +24,13 @@ use Rattle.derivation.specs.Stands.{Pairs, Paired, PairsStand}
 
 -- the cell of a kind alone
 abbrev pub kind_cell : Kind → ℕ
-kind_cell ordered = 1
-kind_cell compatible = 2
+kind_cell Kind.Ordered = 1
+kind_cell Kind.Compatible = 2
 
 -- what a statement adds to a list: an entry where it is a fact
 abbrev entry_of : (Kind → ℕ → ℕ → ℕ) → Statement → List ℕ
-entry_of field (Statement.Ordering i j) = field ordered i.0 j.0 ∷ []
-entry_of field (Statement.Compatibility i j) = field compatible i.0 j.0 ∷ []
+entry_of field (Statement.Ordering i j) = field Kind.Ordered i.0 j.0 ∷ []
+entry_of field (Statement.Compatibility i j) = field Kind.Compatible i.0 j.0 ∷ []
 entry_of field (Statement.Selection i f j) = []
 entry_of field (Statement.Labelling i a) = []
 
@@ -149,28 +150,28 @@ PairedIn q = Paired (cell_in q) (left_in q) (right_in q)
 
 fact_paired : (kind : Kind) (i j : ℕ) → PairedIn (fact kind i j) kind i j
 unfolding says same less ◌or◌
-fact_paired ordered i j = pair_of record { first = refl; second = refl; told = refl }
-fact_paired compatible i j = pair_of record { first = refl; second = refl; told = refl }
+fact_paired Kind.Ordered i j = pair_of record { first = refl; second = refl; told = refl }
+fact_paired Kind.Compatible i j = pair_of record { first = refl; second = refl; told = refl }
 
 pub fact_said : (kind other : Kind) (x y i j : ℕ) → Said (kind_cell kind) x y other i j → fact other i j ≡ fact kind x y
 unfolding says same less ◌or◌
-fact_said ordered ordered x y i j p = rw (p.first, p.second) refl
-fact_said ordered compatible x y i j p = absurd (contrary p.told refl)
-fact_said compatible ordered x y i j p = absurd (contrary p.told refl)
-fact_said compatible compatible x y i j p = rw (p.first, p.second) refl
+fact_said Kind.Ordered Kind.Ordered x y i j p = rw (p.first, p.second) refl
+fact_said Kind.Ordered Kind.Compatible x y i j p = absurd (contrary p.told refl)
+fact_said Kind.Compatible Kind.Ordered x y i j p = absurd (contrary p.told refl)
+fact_said Kind.Compatible Kind.Compatible x y i j p = rw (p.first, p.second) refl
 
 -- the other way round, and a fact is no selection
 pub said_fact : (kind other : Kind) (x y i j : ℕ) → fact other i j ≡ fact kind x y → Said (kind_cell kind) x y other i j
-said_fact ordered other x y i j e = said_of (subst (λ s. PairedIn s other i j) e (fact_paired other i j))
-said_fact compatible other x y i j e = said_of (subst (λ s. PairedIn s other i j) e (fact_paired other i j))
+said_fact Kind.Ordered other x y i j e = said_of (subst (λ s. PairedIn s other i j) e (fact_paired other i j))
+said_fact Kind.Compatible other x y i j e = said_of (subst (λ s. PairedIn s other i j) e (fact_paired other i j))
 
 pub no_subject : (kind : Kind) (i j : ℕ) → subject_in (fact kind i j) ≡ []
-no_subject ordered i j = refl
-no_subject compatible i j = refl
+no_subject Kind.Ordered i j = refl
+no_subject Kind.Compatible i j = refl
 
 is_stated_lem : (q : Statement) (kind : Kind) (i j : ℕ) → PairedIn q kind i j → fact kind i j ≡ q
-is_stated_lem (Statement.Ordering x y) kind i j a = fact_said ordered kind x.0 y.0 i j (said_of a)
-is_stated_lem (Statement.Compatibility x y) kind i j a = fact_said compatible kind x.0 y.0 i j (said_of a)
+is_stated_lem (Statement.Ordering x y) kind i j a = fact_said Kind.Ordered kind x.0 y.0 i j (said_of a)
+is_stated_lem (Statement.Compatibility x y) kind i j a = fact_said Kind.Compatible kind x.0 y.0 i j (said_of a)
 is_stated_lem (Statement.Selection x f y) kind i j a = absurd (among_none a)
 is_stated_lem (Statement.Labelling x a) kind i j p = absurd (among_none p)
 
@@ -197,14 +198,14 @@ other_than_pair {st} q none stand =
 module _ {n : ℕ} {cells lefts rights : List ℕ} (lawful : Pairs n cells lefts rights) where
   pub more_pairs : (kind : Kind) (i j : ℕ) → Names n (fact kind i j)
       → Pairs n (cells ++ (kind_cell kind ∷ [])) (lefts ++ (i ∷ [])) (rights ++ (j ∷ []))
-  more_pairs ordered i j names = both_pairs lawful (statement_lawful n (ordering i j) names)
-  more_pairs compatible i j names = both_pairs lawful (statement_lawful n (compatibility i j) names)
+  more_pairs Kind.Ordered i j names = both_pairs lawful (statement_lawful n (ordering i j) names)
+  more_pairs Kind.Compatible i j names = both_pairs lawful (statement_lawful n (compatibility i j) names)
 
   pub more_pairs_stand : {st : List Statement} (kind : Kind) (i j : ℕ) → PairsStand st cells lefts rights
       → PairsStand (st ++ (fact kind i j ∷ [])) (cells ++ (kind_cell kind ∷ [])) (lefts ++ (i ∷ [])) (rights ++ (j ∷ []))
-  more_pairs_stand ordered i j stand =
+  more_pairs_stand Kind.Ordered i j stand =
       both_pairs_stand lawful.lefts_too lawful.rights_too stand (statement_pairs (ordering i j))
-  more_pairs_stand compatible i j stand =
+  more_pairs_stand Kind.Compatible i j stand =
       both_pairs_stand lawful.lefts_too lawful.rights_too stand (statement_pairs (compatibility i j))
 
 -- so the facts of any statements stand in the lists made of them

@@ -8,7 +8,8 @@ ghost use Rattle.facts.specs.Insertion.{Inserting};
 ghost use Rattle.facts.specs.Insertion.{mark_of, cell_taken_at, Columns, Rows, Looking};
 
 use fields::MOST_VARIABLES;
-use table::{ROOM, lacks, look, push, says_ordered, store};
+use rules::Kind;
+use table::{ROOM, lacks, look, push, says, store};
 
 // Adds what w says to the cell of x and y.
 #[tactic(auto, using(crate::proofs::Takes::has_it_all))]
@@ -129,7 +130,7 @@ fn mark(t: &[u8], n: usize, w: u8, u: usize, v: usize, x: usize) -> u8
     requires { (Cell n t.now x u) × (Cell n t.now x v) }
     ensures { result ≡ mark_of n t.now w u v x }
 {
-    if says_ordered(look(t, n, x, u)) {
+    if says(Kind::Ordered, look(t, n, x, u)) {
         if lacks(look(t, n, x, v), w) {
             return 1;
         }
@@ -156,10 +157,10 @@ fn taken(t: &[u8], n: usize, w: u8, v: usize, y: usize) -> u8
     requires { (Cell n t.now v y) × (Cell n t.now y v) }
     ensures { result ≡ cell_taken_at n t.now w v y }
 {
-    if says_ordered(w) {
+    if says(Kind::Ordered, w) {
         return look(t, n, v, y);
     }
-    if says_ordered(look(t, n, y, v)) {
+    if says(Kind::Ordered, look(t, n, y, v)) {
         return 2;
     }
     0

@@ -7,7 +7,7 @@ use Rattle.fields.specs.Refusals.{number_of}
 use Rattle.items.specs.declared.items.Statement.{Statement}
 use Rattle.sheet.specs.Sheets.{Sheet, then_sheet, read_sheet, sheet_of}
 use Rattle.rules.specs.declared.clashes.Clash.{Clash}
-use Rattle.rules.specs.Facts.{ordered, compatible}
+use Rattle.rules.specs.declared.kinds.Kind.{Kind}
 use Rattle.rules.specs.Tables.{count_facts}
 use Rattle.rules.specs.Derived.{facts_of}
 use Rattle.rules.specs.Clashes.{clash_of}
@@ -37,8 +37,8 @@ labels_from (suc left) i st = stated_label st i ∷ labels_from left (suc i) st
 -- the numbers of both kinds of fact
 unfoldable pub counts_of : Sheet → Outcome
 counts_of s =
-    consistent (count_facts s.n (facts_of s.stated s.n) ordered)
-    (count_facts s.n (facts_of s.stated s.n) compatible)
+    consistent (count_facts s.n (facts_of s.stated s.n) Kind.Ordered)
+    (count_facts s.n (facts_of s.stated s.n) Kind.Compatible)
 
 -- where no labels clash there are counts and replies
 abbrev pub of_sheet : List ℕ → Sheet → Prelude.Option Clash → Case

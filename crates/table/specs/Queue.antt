@@ -1,7 +1,7 @@
 -- The queue: pairs of variables whose cells changed and whose children are still to be looked at.
 use Rattle.std.specs.Prelude.{ℕ, ◌+◌, ◌*◌, ◌/◌, ◌%◌, ◌<◌, ◌≤◌, length, get_or, List, ◌≡◌}
 use Rattle.fields.specs.Limits.{most_variables}
-use Rattle.rules.specs.Facts.{ordered, compatible}
+use Rattle.rules.specs.declared.kinds.Kind.{Kind}
 use Rattle.rules.specs.Tables.{facts, Shape, count_facts}
 
 -- how many entries there is room for: one for each fact, and one for each pair that a selection on trial queues
@@ -39,7 +39,7 @@ state table queue tail = record { table = table; queue = queue; tail = tail }
 
 -- how many facts a table has, of both kinds
 unfoldable pub fact_count : ℕ → List ℕ → ℕ
-fact_count n t = count_facts n (facts n t) ordered + count_facts n (facts n t) compatible
+fact_count n t = count_facts n (facts n t) Kind.Ordered + count_facts n (facts n t) Kind.Compatible
 
 -- the queue has a place for each fact that is not in the table yet
 pub record Ready (n : ℕ) (s : State) : Type 0 where

@@ -7,4 +7,4 @@ mod table;
 
 pub use numbers::wide;
 pub use queue::{ROOM, first_of, push, second_of};
-pub use table::{clear, copy, lacks, look, says_compatible, says_ordered, store};
+pub use table::{clear, copy, lacks, look, says, store};

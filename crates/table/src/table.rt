@@ -1,9 +1,10 @@
 // The fact table: a cell for two variables, 1 for ≤ plus 2 for ~. Only this file knows where a cell stands.
 ghost use Rattle.std.specs.Prelude.{◌+◌, ◌*◌, ◌<◌, ◌≤◌, length, replicate, ◌≡◌};
 ghost use Rattle.fields.specs.Limits.{most_variables};
-ghost use Rattle.rules.specs.Facts.{ordered, compatible};
 ghost use Rattle.rules.specs.Tables.{says, cell_at};
 ghost use Rattle.table.specs.Cells.{Cell, with_cell, is_lacking};
+
+use rules::Kind;
 
 // Where the cell of i and j stands.
 fn place(n: usize, i: usize, j: usize) -> usize
@@ -33,20 +34,16 @@ pub fn store(t: &mut [u8], n: usize, i: usize, j: usize, cell: u8)
     t[at] = cell;
 }
 
-// Whether a cell says ≤.
+// Whether a cell says a fact of the kind.
+#[inline]
 #[tactic(auto, using(crate::proofs::Saying::by_number))]
-pub fn says_ordered(cell: u8) -> bool
-    ensures { result ≡ says ordered cell }
+pub fn says(kind: Kind, cell: u8) -> bool
+    ensures { result ≡ says kind cell }
 {
-    cell == 1 || cell == 3
-}
-
-// Whether a cell says ~.
-#[tactic(auto, unfolding(rules::specs::Tables::says, fields::specs::Tests::less))]
-pub fn says_compatible(cell: u8) -> bool
-    ensures { result ≡ says compatible cell }
-{
-    1 < cell
+    match kind {
+        Kind::Ordered => cell == 1 || cell == 3,
+        Kind::Compatible => 1 < cell,
+    }
 }
 
 // Whether w says something that a cell does not.
