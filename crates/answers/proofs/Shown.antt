@@ -6,12 +6,13 @@ use mathlib.Core.Bool.{Bool, true, false, not}
 use mathlib.Core.List.{List}
 use mathlib.Core.Path.{◌≡◌, refl, sym, ap, subst}
 use native.Mathlib.Omega.{arith}
-use Rattle.fields.specs.Tests.{same, pick}
+use Rattle.fields.specs.Tests.{same}
 use Rattle.fields.proofs.Choice.{is_same, not_same, same_true, same_false}
 use Rattle.items.specs.declared.items.Statement.{Statement}
 use Rattle.rules.specs.Connectives.{◌and◌}
 use Rattle.rules.specs.Stated.{selection, labelling, Stated, any_below}
-use Rattle.rules.specs.Facts.{ordered, Relation}
+use Rattle.rules.specs.declared.kinds.Kind.{Kind}
+use Rattle.rules.specs.Facts.{Relation}
 use Rattle.rules.specs.Tables.{facts}
 use Rattle.rules.specs.Support.{under_child, over_child, under_label, supported}
 use Rattle.rules.proofs.Logic.{both, first_of_and, second_of_and, same_tests}
@@ -21,21 +22,22 @@ use Rattle.rules.proofs.Supported.{label_by, label_under}
 use Rattle.selections.specs.Listed.{Selections, Listed}
 use Rattle.selections.specs.Stands.{SelectionsStand}
 use Rattle.labels.specs.Labels.{LabelsStand}
+use Rattle.answers.specs.declared.support.Side.{Side}
 use Rattle.answers.specs.Supports.{SingleLabels, ordered_so, child_shown}
 use Rattle.answers.proofs.Logic.{fails_first, second_decides}
 
 -- the selection at x is at f and relates its fields to i and j
-unfoldable pub child_at : Bool → Relation → List ℕ → List ℕ → List ℕ → ℕ → ℕ → ℕ → ℕ → Bool
-child_at turned r subjects features children i f j x =
+unfoldable pub child_at : Side → Relation → List ℕ → List ℕ → List ℕ → ℕ → ℕ → ℕ → ℕ → Bool
+child_at side r subjects features children i f j x =
     same f (get_or features x 0)
-    and (ordered_so turned r (get_or subjects x 0) i and ordered_so turned r j (get_or children x 0))
+    and (ordered_so side r (get_or subjects x 0) i and ordered_so side r j (get_or children x 0))
 
 pub child_sought : {n : ℕ} {st : List Statement} {subjects features children : List ℕ}
     → Selections n subjects features children → SelectionsStand n st (Listed subjects features children) →
-    (turned : Bool) (r : Relation) (i f j : ℕ)
-    → any_below (length subjects) (child_at turned r subjects features children i f j) ≡ child_shown turned st r i f j
+    (side : Side) (r : Relation) (i f j : ℕ)
+    → any_below (length subjects) (child_at side r subjects features children i f j) ≡ child_shown side st r i f j
 unfolding child_at child_shown
-child_sought {n} {st} {subjects} {features} {children} lawful stand turned r i f j =
+child_sought {n} {st} {subjects} {features} {children} lawful stand side r i f j =
     same_tests _ _
     (λ p. below_one (length subjects) _ p λ x g t.
     by_selection_at f _ _
@@ -55,18 +57,18 @@ child_sought {n} {st} {subjects} {features} {children} lawful stand turned r i f
 
 -- a selection is supported from both sides
 module _ (st : List Statement) (r : Relation) (i f j : ℕ) where
-  pub under_first : {b : Bool} → child_shown false st r i f j ≡ true → b ≡ child_shown true st r i f j
+  pub under_first : {b : Bool} → child_shown Side.Under st r i f j ≡ true → b ≡ child_shown Side.Over st r i f j
       → b ≡ supported st r (selection i f j)
-  unfolding child_shown ordered_so pick supported under_child over_child
+  unfolding child_shown ordered_so supported under_child over_child
   under_first p e = second_decides p e
 
-  pub not_under : child_shown false st r i f j ≡ false → false ≡ supported st r (selection i f j)
-  unfolding child_shown ordered_so pick supported under_child
+  pub not_under : child_shown Side.Under st r i f j ≡ false → false ≡ supported st r (selection i f j)
+  unfolding child_shown ordered_so supported under_child
   not_under p = sym (fails_first _ p)
 
 -- k has the label a and is below i
 unfoldable pub label_at : Relation → List ℕ → List ℕ → ℕ → ℕ → ℕ → Bool
-label_at r counts labels i a k = not (same (get_or counts k 0) 0) and (same (get_or labels k 0) a and r ordered k i)
+label_at r counts labels i a k = not (same (get_or counts k 0) 0) and (same (get_or labels k 0) a and r Kind.Ordered k i)
 
 pub label_sought : (n : ℕ) (t : List ℕ) {st : List Statement} {counts labels : List ℕ} → LabelsStand n st counts labels
     → SingleLabels n counts → (i a : ℕ)
@@ -81,7 +83,7 @@ label_sought n t {st} {counts} {labels} stand one i a =
     (subst (λ b. Stated st (labelling k b)) (same_true _ _ (first_of_and _ _ rest)) ((stand.at k g).first (omega arith)))
     (second_of_and _ _ rest))
     (λ p. label_under st (facts n t) i a p λ k s o.
-    let g = fact_row n t ordered k i o in
+    let g = fact_row n t Kind.Ordered k i o in
     let here = stand.at k g in
     let some : get_or counts k 0 ≡ 0 → ⊥ = λ e. here.none e a s in
     let few = one.single k g in

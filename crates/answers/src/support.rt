@@ -9,28 +9,35 @@ ghost use Rattle.answers.specs.Supports.{SingleLabels, ordered_so, ChildTold, La
 use crate::cells::has_fact;
 use fields::MOST_VARIABLES;
 use items::Statement;
+use rules::Kind;
 
-// x ≤ y, or y ≤ x where it is turned.
-#[tactic(auto, unfolding(crate::specs::Supports::ordered_so, fields::specs::Tests::pick))]
-fn is_ordered(t: &[u8], n: usize, turned: bool, x: usize, y: usize) -> bool
+// The two sides from which a selection is supported: by what is below it, and by what is above.
+#[derive(Clone, Copy)]
+enum Side {
+    Under,
+    Over,
+}
+
+// x ≤ y seen from under, y ≤ x from over.
+#[tactic(auto, unfolding(crate::specs::Supports::ordered_so))]
+fn is_ordered(t: &[u8], n: usize, side: Side, x: usize, y: usize) -> bool
     requires { Lent n t.now × ((x < n) × (y < n)) }
-    ensures { result ≡ ordered_so turned (facts n t.now) x y }
+    ensures { result ≡ ordered_so side (facts n t.now) x y }
 {
-    if turned {
-        has_fact(t, n, false, y, x)
-    } else {
-        has_fact(t, n, false, x, y)
+    match side {
+        Side::Under => has_fact(t, n, Kind::Ordered, x, y),
+        Side::Over => has_fact(t, n, Kind::Ordered, y, x),
     }
 }
 
-// Some k[f]m has k ≤ i and j ≤ m, or both turned.
+// Some k[f]m has k ≤ i and j ≤ m from under, i ≤ k and m ≤ j from over.
 fn shows_child(
     t: &[u8],
     n: usize,
     subjects: &[u8],
     features: &[u16],
     children: &[u8],
-    turned: bool,
+    side: Side,
     i: usize,
     f: u16,
     j: usize,
@@ -38,7 +45,7 @@ fn shows_child(
     requires lent { Lent n t.now × ((i < n) × (j < n)) }
     requires selections { Selections n subjects.now features.now children.now }
     ensures { ChildTold n t.now subjects.now features.now
-        children.now turned i f j result }
+        children.now side i f j result }
 {
     let mut left = subjects.len();
     while 0 < left {
@@ -46,8 +53,8 @@ fn shows_child(
         if features[left] == f {
             let k = subjects[left] as usize;
             let m = children[left] as usize;
-            if is_ordered(t, n, turned, k, i) {
-                if is_ordered(t, n, turned, j, m) {
+            if is_ordered(t, n, side, k, i) {
+                if is_ordered(t, n, side, j, m) {
                     return true;
                 }
             }
@@ -74,7 +81,7 @@ fn shows_label(
         left -= 1;
         if counts[left] != 0 {
             if labels[left] == a {
-                if has_fact(t, n, false, left, i) {
+                if has_fact(t, n, Kind::Ordered, left, i) {
                     return true;
                 }
             }
@@ -101,13 +108,13 @@ pub fn supports(
         children.now counts.now labels.now q result }
 {
     match q {
-        Statement::Ordering(i, j) => has_fact(t, n, false, i.0 as usize, j.0 as usize),
-        Statement::Compatibility(i, j) => has_fact(t, n, true, i.0 as usize, j.0 as usize),
+        Statement::Ordering(i, j) => has_fact(t, n, Kind::Ordered, i.0 as usize, j.0 as usize),
+        Statement::Compatibility(i, j) => has_fact(t, n, Kind::Compatible, i.0 as usize, j.0 as usize),
         Statement::Selection(i, f, j) => {
             let x = i.0 as usize;
             let y = j.0 as usize;
-            if shows_child(t, n, subjects, features, children, false, x, f.0, y) {
-                shows_child(t, n, subjects, features, children, true, x, f.0, y)
+            if shows_child(t, n, subjects, features, children, Side::Under, x, f.0, y) {
+                shows_child(t, n, subjects, features, children, Side::Over, x, f.0, y)
             } else {
                 false
             }

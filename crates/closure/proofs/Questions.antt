@@ -11,7 +11,8 @@ use Rattle.items.specs.declared.items.Statement.{Statement}
 use Rattle.items.specs.Statements.{Names}
 use Rattle.rules.specs.declared.clashes.Clash.{Clash}
 use Rattle.rules.specs.Stated.{selection}
-use Rattle.rules.specs.Facts.{Kind, fact}
+use Rattle.rules.specs.declared.kinds.Kind.{Kind}
+use Rattle.rules.specs.Facts.{fact}
 use Rattle.rules.specs.Tables.{facts}
 use Rattle.rules.specs.Clashes.{clash_in_rows, clash_of, is_clash, clashes}
 use Rattle.rules.proofs.Lists.{all_with}

@@ -6,7 +6,7 @@ use mathlib.Core.List.{List}
 use mathlib.Core.Path.{◌≡◌, refl, sym, ap, ◌∙◌}
 use native.Mathlib.Omega.{arith}
 use Rattle.items.specs.declared.items.Statement.{Statement}
-use Rattle.rules.specs.Facts.{compatible}
+use Rattle.rules.specs.declared.kinds.Kind.{Kind}
 use Rattle.rules.specs.Tables.{says, cell_at, facts}
 use Rattle.rules.specs.Clashes.{clashes_at}
 use Rattle.rules.proofs.Logic.{last_or_before, contrary}
@@ -28,10 +28,10 @@ module _ {n : ℕ} {t : List ℕ} {entry : Entry} (searching : Searching n t ent
   search_column = rw second searching.pair.second
 
   -- and whose cell was asked
-  module _ (cell : ℕ) (alike : Bool) (looked : cell ≡ cell_at n t i j) (asked : alike ≡ says compatible cell) where
-    of_cell : facts n t compatible i j ≡ alike
+  module _ (cell : ℕ) (alike : Bool) (looked : cell ≡ cell_at n t i j) (asked : alike ≡ says Kind.Compatible cell) where
+    of_cell : facts n t Kind.Compatible i j ≡ alike
     of_cell =
-        fact_said n t compatible i j search_row search_column ∙ ap (says compatible) (sym looked) ∙ sym asked
+        fact_said n t Kind.Compatible i j search_row search_column ∙ ap (says Kind.Compatible) (sym looked) ∙ sym asked
 
     pub entry_open : {spreads : List Spread} {r : Bool} → alike ≡ true → DifferTold spreads i j r
         → EntryTold n t spreads entry r

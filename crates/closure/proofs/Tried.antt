@@ -8,7 +8,8 @@ use mathlib.Core.Path.{◌≡◌, sym, subst}
 use Rattle.items.specs.declared.items.Statement.{Statement}
 use Rattle.items.specs.Statements.{Names, AllName}
 use Rattle.rules.specs.Stated.{labelling, Stated}
-use Rattle.rules.specs.Facts.{Kind, compatible, fact, Holds, Within}
+use Rattle.rules.specs.declared.kinds.Kind.{Kind}
+use Rattle.rules.specs.Facts.{fact, Holds, Within}
 use Rattle.rules.specs.Tables.{facts}
 use Rattle.rules.specs.Derived.{derived, facts_of}
 use Rattle.rules.specs.Clashes.{labels_differ, clashes_at, clashes}
@@ -50,20 +51,20 @@ module _ (n : ℕ) (st : List Statement) (q : Statement) (all : AllName n st) (n
   more_differ i j p = differ_of st i j p λ a b s s' d. differ_by (still q s) (still q s') d
 
   -- by a pair to which F5 applies
-  by_pair : (i j : ℕ) → Holds (facts_of more n) compatible i j → labels_differ st i j ≡ true → clashes more n ≡ true
+  by_pair : (i j : ℕ) → Holds (facts_of more n) Kind.Compatible i j → labels_differ st i j ≡ true → clashes more n ≡ true
   unfolding clashes_at
   by_pair i j alike differ =
       decided (clashes more n) (λ c. c)
       (λ c.
       absurd (contrary (both alike (more_differ i j differ))
-      (not_clashing more n c i j (fact_row n _ compatible i j alike) (fact_column n _ compatible i j alike))))
+      (not_clashing more n c i j (fact_row n _ Kind.Compatible i j alike) (fact_column n _ Kind.Compatible i j alike))))
 
   pub still_clashes : clashes st n ≡ true → clashes (st ++ (q ∷ [])) n ≡ true
   unfolding clashes_at
   still_clashes p =
       clashing st n p λ i j least.
-      by_pair i j (stays compatible i j (first_of_and _ _ least.applies))
-      (second_of_and (facts_of st n compatible i j) _ least.applies)
+      by_pair i j (stays Kind.Compatible i j (first_of_and _ _ least.applies))
+      (second_of_and (facts_of st n Kind.Compatible i j) _ least.applies)
 
 module _ {n : ℕ} {st : List Statement} {closed : List ℕ} {groups : Groups} {spreads : List Spread}
     {q : Statement}
@@ -116,32 +117,32 @@ module _ {n : ℕ} {st : List Statement} {closed : List ℕ} {groups : Groups} {
   unfolding entry_clashes clashes_at
   entry_clash e =
       let entry = entry_at searched.queue e.at in
-      let alike : Holds (facts n searched.table) compatible entry.first.0 entry.second.0 =
+      let alike : Holds (facts n searched.table) Kind.Compatible entry.first.0 entry.second.0 =
       first_of_and _ _ e.applies in
       by_pair n st q stands.names names entry.first.0 entry.second.0 (rw tried_table at alike)
-      (second_of_and (facts n searched.table compatible entry.first.0 entry.second.0) _ e.applies)
+      (second_of_and (facts n searched.table Kind.Compatible entry.first.0 entry.second.0) _ e.applies)
 
   -- a clash is of a pair in the queue
-  pair_queued : (i j : ℕ) → Holds (facts_of with_q n) compatible i j → labels_differ st i j ≡ true
+  pair_queued : (i j : ℕ) → Holds (facts_of with_q n) Kind.Compatible i j → labels_differ st i j ≡ true
       → Queued searched.queue searched.from (length searched.queue) i j
   unfolding clashes_at
   pair_queued i j p d =
       ⊎_elim
       (λ o.
-      let before = fact_old compatible i j o in
+      let before = fact_old Kind.Compatible i j o in
       absurd (contrary (both before d)
-      (not_clashing st n consistent.clear i j (fact_row n _ compatible i j before)
-      (fact_column n _ compatible i j before))))
+      (not_clashing st n consistent.clear i j (fact_row n _ Kind.Compatible i j before)
+      (fact_column n _ Kind.Compatible i j before))))
       (λ e. e)
-      (searched.tries.queued compatible i j (rw tried_table p))
+      (searched.tries.queued Kind.Compatible i j (rw tried_table p))
 
   clash_entry : clashes with_q n ≡ true
       → QueuedClash n searched.table st searched.queue searched.from
   unfolding entry_clashes clashes_at
   clash_entry p =
       clashing with_q n p λ i j least.
-      let alike : Holds (facts_of with_q n) compatible i j = first_of_and _ _ least.applies in
-      let differ = less_differ i j (second_of_and (facts_of with_q n compatible i j) _ least.applies) in
+      let alike : Holds (facts_of with_q n) Kind.Compatible i j = first_of_and _ _ least.applies in
+      let differ = less_differ i j (second_of_and (facts_of with_q n Kind.Compatible i j) _ least.applies) in
       let e = pair_queued i j alike differ in
       record {
         at = e.at;

@@ -7,7 +7,8 @@ use mathlib.Core.Path.{◌≡◌, ap}
 use native.Mathlib.Nat.{mul-le-mul}
 use native.Mathlib.Omega.{arith}
 use Rattle.fields.specs.Limits.{most_variables}
-use Rattle.rules.specs.Facts.{Kind, Holds}
+use Rattle.rules.specs.declared.kinds.Kind.{Kind}
+use Rattle.rules.specs.Facts.{Holds}
 use Rattle.rules.specs.Tables.{facts}
 use Rattle.rules.proofs.Logic.{last_or_before}
 use Rattle.rules.proofs.Tables.{fact_row, fact_column}

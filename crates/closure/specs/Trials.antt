@@ -4,7 +4,8 @@ use Rattle.std.specs.Prelude.{List, [], ◌∷◌, ◌++◌, ◌⊎◌, ◌↔�
 use Rattle.fields.specs.Limits.{most_variables}
 use Rattle.items.specs.declared.items.Statement.{Statement}
 use Rattle.items.specs.Statements.{Names, AllName}
-use Rattle.rules.specs.Facts.{Kind, Relation, Holds, Within}
+use Rattle.rules.specs.declared.kinds.Kind.{Kind}
+use Rattle.rules.specs.Facts.{Relation, Holds, Within}
 use Rattle.rules.specs.Tables.{facts, Shape}
 use Rattle.rules.specs.Derived.{derived}
 use Rattle.rules.specs.Clashes.{clashes_at, clashes}

@@ -9,8 +9,9 @@ use derivation::run;
 use facts::Growth;
 use items::Statement;
 use labels::Labels;
+use rules::Kind;
 use selections::{Child, Groups};
-use table::{Entry, Table, push, says_compatible};
+use table::{Entry, Table, push, says};
 
 // Room to try a statement in: a copy of the closed table with an empty queue, and the groups of the selections.
 #[derive(Drop)]
@@ -26,7 +27,7 @@ fn clashes_at(table: &Table, labels: &Labels, entry: Entry) -> bool
 {
     let i = entry.first.index();
     let j = entry.second.index();
-    says_compatible(table.look(i, j)) && labels.differ(i, j)
+    says(Kind::Compatible, table.look(i, j)) && labels.differ(i, j)
 }
 
 impl Trial<'_> {

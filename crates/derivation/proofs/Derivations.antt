@@ -10,7 +10,8 @@ use native.Mathlib.Omega.{arith}
 use Rattle.fields.specs.Limits.{most_variables}
 use Rattle.fields.specs.Tests.{less, same}
 use Rattle.rules.specs.Connectives.{◌or◌}
-use Rattle.rules.specs.Facts.{Kind, ordered, compatible, Holds}
+use Rattle.rules.specs.declared.kinds.Kind.{Kind}
+use Rattle.rules.specs.Facts.{Holds}
 use Rattle.rules.specs.Tables.{says, facts}
 use Rattle.rules.specs.Derived.{facts_of}
 use Rattle.rules.proofs.Tables.{fact_column, zeros_shape, zeros_empty}
@@ -30,8 +31,8 @@ use Rattle.derivation.proofs.Equal.{derived_framed, derived_stated, derived_desc
 -- 3 says both
 says_both : (kind : Kind) → says kind 3 ≡ true
 unfolding says same less ◌or◌
-says_both ordered = refl
-says_both compatible = refl
+says_both Kind.Ordered = refl
+says_both Kind.Compatible = refl
 
 -- one stated pair, with its variables as they were read
 pub pair_steps : {n m : ℕ} {s s' : State} (pair : Pair) (a b : ℕ) → m ≡ n → a ≡ pair.left.0 → b ≡ pair.right.0
@@ -71,8 +72,8 @@ module _ (n : ℕ) (t₀ t : List ℕ) (queue : List Entry) (square : length t�
                 ahead = h;
                 holds = record { first = refl; second = refl; told = says_both kind };
               });
-          through = λ kind i j k p q. rw (self ordered i j p) q;
-          symmetric = λ i j p. rw (self compatible i j p) (rw (self compatible i j p) at p);
+          through = λ kind i j k p q. rw (self Kind.Ordered i j p) q;
+          symmetric = λ i j p. rw (self Kind.Compatible i j p) (rw (self Kind.Compatible i j p) at p);
         }
 
     -- from no facts to all

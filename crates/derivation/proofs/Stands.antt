@@ -11,7 +11,8 @@ use Rattle.items.specs.declared.items.Statement.{Statement}
 use Rattle.items.specs.Statements.{Names, AllName}
 use Rattle.rules.specs.Connectives.{◌or◌}
 use Rattle.rules.specs.Stated.{ordering, compatibility}
-use Rattle.rules.specs.Facts.{Kind, ordered, compatible, fact}
+use Rattle.rules.specs.declared.kinds.Kind.{Kind}
+use Rattle.rules.specs.Facts.{fact}
 use Rattle.rules.specs.Tables.{says}
 use Rattle.rules.proofs.Logic.{contrary}
 use Rattle.rules.proofs.More.{still, stated_of}
@@ -24,13 +25,13 @@ use Rattle.derivation.specs.Stands.{pair_of, no_pair, Pairs, SaidBy, Paired, Pai
 
 -- the cell of a kind alone
 abbrev pub kind_cell : Kind → ℕ
-kind_cell ordered = 1
-kind_cell compatible = 2
+kind_cell Kind.Ordered = 1
+kind_cell Kind.Compatible = 2
 
 -- what a statement adds to the list: an entry where it is a fact
 abbrev pub pair_in : Statement → List Pair
-pair_in (Statement.Ordering i j) = pair_of (kind_cell ordered) i.0 j.0 ∷ []
-pair_in (Statement.Compatibility i j) = pair_of (kind_cell compatible) i.0 j.0 ∷ []
+pair_in (Statement.Ordering i j) = pair_of (kind_cell Kind.Ordered) i.0 j.0 ∷ []
+pair_in (Statement.Compatibility i j) = pair_of (kind_cell Kind.Compatible) i.0 j.0 ∷ []
 pair_in (Statement.Selection i f j) = []
 pair_in (Statement.Labelling i a) = []
 
@@ -119,28 +120,28 @@ PairedIn q = Paired (pair_in q)
 
 fact_paired : (kind : Kind) (i j : ℕ) → PairedIn (fact kind i j) kind i j
 unfolding says same less ◌or◌
-fact_paired ordered i j = said_paired record { first = refl; second = refl; told = refl }
-fact_paired compatible i j = said_paired record { first = refl; second = refl; told = refl }
+fact_paired Kind.Ordered i j = said_paired record { first = refl; second = refl; told = refl }
+fact_paired Kind.Compatible i j = said_paired record { first = refl; second = refl; told = refl }
 
 pub fact_said : (kind other : Kind) (x y i j : ℕ) → Said (kind_cell kind) x y other i j → fact other i j ≡ fact kind x y
 unfolding says same less ◌or◌
-fact_said ordered ordered x y i j p = rw (p.first, p.second) refl
-fact_said ordered compatible x y i j p = absurd (contrary p.told refl)
-fact_said compatible ordered x y i j p = absurd (contrary p.told refl)
-fact_said compatible compatible x y i j p = rw (p.first, p.second) refl
+fact_said Kind.Ordered Kind.Ordered x y i j p = rw (p.first, p.second) refl
+fact_said Kind.Ordered Kind.Compatible x y i j p = absurd (contrary p.told refl)
+fact_said Kind.Compatible Kind.Ordered x y i j p = absurd (contrary p.told refl)
+fact_said Kind.Compatible Kind.Compatible x y i j p = rw (p.first, p.second) refl
 
 -- the other way round, and a fact is no selection
 pub said_fact : (kind other : Kind) (x y i j : ℕ) → fact other i j ≡ fact kind x y → Said (kind_cell kind) x y other i j
-said_fact ordered other x y i j e = said_of (subst (λ s. PairedIn s other i j) e (fact_paired other i j))
-said_fact compatible other x y i j e = said_of (subst (λ s. PairedIn s other i j) e (fact_paired other i j))
+said_fact Kind.Ordered other x y i j e = said_of (subst (λ s. PairedIn s other i j) e (fact_paired other i j))
+said_fact Kind.Compatible other x y i j e = said_of (subst (λ s. PairedIn s other i j) e (fact_paired other i j))
 
 pub no_subject : (kind : Kind) (i j : ℕ) → selection_in (fact kind i j) ≡ []
-no_subject ordered i j = refl
-no_subject compatible i j = refl
+no_subject Kind.Ordered i j = refl
+no_subject Kind.Compatible i j = refl
 
 is_stated_lem : (q : Statement) (kind : Kind) (i j : ℕ) → PairedIn q kind i j → fact kind i j ≡ q
-is_stated_lem (Statement.Ordering x y) kind i j a = fact_said ordered kind x.0 y.0 i j (said_of a)
-is_stated_lem (Statement.Compatibility x y) kind i j a = fact_said compatible kind x.0 y.0 i j (said_of a)
+is_stated_lem (Statement.Ordering x y) kind i j a = fact_said Kind.Ordered kind x.0 y.0 i j (said_of a)
+is_stated_lem (Statement.Compatibility x y) kind i j a = fact_said Kind.Compatible kind x.0 y.0 i j (said_of a)
 is_stated_lem (Statement.Selection x f y) kind i j a = absurd (among_none a)
 is_stated_lem (Statement.Labelling x a) kind i j p = absurd (among_none p)
 
@@ -167,13 +168,13 @@ other_than_pair {st} q none stand =
 module _ {n : ℕ} {pairs : List Pair} where
   pub more_pairs : Pairs n pairs → (kind : Kind) (i j : ℕ) → Names n (fact kind i j)
       → Pairs n (pairs ++ (pair_of (kind_cell kind) i j ∷ []))
-  more_pairs lawful ordered i j names = both_pairs lawful (statement_lawful n (ordering i j) names)
-  more_pairs lawful compatible i j names = both_pairs lawful (statement_lawful n (compatibility i j) names)
+  more_pairs lawful Kind.Ordered i j names = both_pairs lawful (statement_lawful n (ordering i j) names)
+  more_pairs lawful Kind.Compatible i j names = both_pairs lawful (statement_lawful n (compatibility i j) names)
 
 pub more_pairs_stand : {st : List Statement} {pairs : List Pair} (kind : Kind) (i j : ℕ) → PairsStand st pairs
     → PairsStand (st ++ (fact kind i j ∷ [])) (pairs ++ (pair_of (kind_cell kind) i j ∷ []))
-more_pairs_stand ordered i j stand = both_pairs_stand stand (statement_pairs (ordering i j))
-more_pairs_stand compatible i j stand = both_pairs_stand stand (statement_pairs (compatibility i j))
+more_pairs_stand Kind.Ordered i j stand = both_pairs_stand stand (statement_pairs (ordering i j))
+more_pairs_stand Kind.Compatible i j stand = both_pairs_stand stand (statement_pairs (compatibility i j))
 
 -- so the facts of any statements stand in the list made of them
 pub all_pairs : (n : ℕ) (st : List Statement) → AllName n st → Pairs n (pairs_of st)

@@ -5,7 +5,8 @@ use Rattle.fields.specs.Fields.{variable}
 use Rattle.items.specs.declared.items.Statement.{Statement}
 use Rattle.items.specs.Statements.{AllName}
 use Rattle.rules.specs.Stated.{Stated}
-use Rattle.rules.specs.Facts.{fact, Kind}
+use Rattle.rules.specs.declared.kinds.Kind.{Kind}
+use Rattle.rules.specs.Facts.{fact}
 use Rattle.rules.specs.Derived.{derived}
 use Rattle.rules.specs.Tables.{facts, Shape}
 use Rattle.table.specs.Queue.{State, Ready}

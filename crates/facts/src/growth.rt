@@ -1,5 +1,4 @@
 // A table that grows, and the queue of its changed cells: each cell that changes is queued.
-ghost use Rattle.rules.specs.Facts.{compatible};
 ghost use Rattle.facts.specs.Additions.{Said, Added};
 ghost use Rattle.facts.specs.Growth.{state_of, IsSame};
 ghost use Rattle.facts.specs.Insertion.{Taking, TakingRow, TakingRows, Sides, RowTaken, RowsTaken};

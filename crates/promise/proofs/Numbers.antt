@@ -16,7 +16,7 @@ use Rattle.sheet.specs.Sheets.{sheet_of}
 use Rattle.sheet.proofs.Theorems.{accepted_few}
 use Rattle.rules.specs.Clashes.{clashes_at}
 use Rattle.rules.specs.Derived.{facts_of}
-use Rattle.rules.specs.Facts.{ordered, compatible}
+use Rattle.rules.specs.declared.kinds.Kind.{Kind}
 use Rattle.rules.proofs.Clashing.{clash_least}
 use Rattle.rules.proofs.Counts.{count_bound}
 use Rattle.rules.proofs.Logic.{contrary}
@@ -51,8 +51,8 @@ module _ {b facts work replies facts' work' replies' : List ℕ} {r : ℕ}
       let s = sheet_of b in
       let facts = facts_of s.stated s.n in
       rw (accepted_number returned h asked e, is)
-      (alone (Outcome.Consistent _ _) (omega (arith, size, count_bound s.n facts ordered))
-      (omega (arith, size, count_bound s.n facts compatible))))
+      (alone (Outcome.Consistent _ _) (omega (arith, size, count_bound s.n facts Kind.Ordered))
+      (omega (arith, size, count_bound s.n facts Kind.Compatible))))
       (λ h asked i j e is k.
       let s = sheet_of b in
       let least = (clash_least s.stated s.n i.0 j.0).0 (between s i j is) in
