@@ -5,6 +5,7 @@ use mathlib.Core.List.Memᴰ
 use mathlib.Core.List.{List}
 use mathlib.Core.Logic.{◌⊎◌, inl, inr}
 use mathlib.Core.Path.{◌≡◌, sym, ap, ◌∙◌}
+use Rattle.std.specs.Prelude.{Option, is_some}
 use Rattle.fields.specs.declared.numbers.Feature.{Feature}
 use Rattle.fields.specs.declared.numbers.Variable.{Variable}
 use Rattle.items.specs.declared.items.Statement.{Statement}
@@ -14,7 +15,7 @@ use Rattle.rules.specs.Stated.{selection}
 use Rattle.rules.specs.declared.kinds.Kind.{Kind}
 use Rattle.rules.specs.Facts.{fact}
 use Rattle.rules.specs.Tables.{facts}
-use Rattle.rules.specs.Clashes.{clash_in_rows, clash_of, is_clash, clashes}
+use Rattle.rules.specs.Clashes.{clash_in_rows, clash_of, clashes}
 use Rattle.rules.proofs.Lists.{all_with}
 use Rattle.facts.specs.Additions.{Said}
 use Rattle.facts.proofs.Sets.{among_none}
@@ -110,12 +111,12 @@ module _ {n : ℕ} {closed : List ℕ} {groups : Groups} {spreads : List Spread}
 module _ {n : ℕ} {closed : List ℕ} {groups : Groups} {spreads : List Spread} {clash : Option Clash}
     (found : ClashTold n closed spreads clash) (q : Statement) (names : Names n q) where
   of_statements : (st : List Statement) → Standing n closed groups spreads st
-      → is_clash clash ≡ clashes st n
+      → is_some clash ≡ clashes st n
   unfolding clash_of clashes
   of_statements st stands =
-      ap is_clash (found.told st stands.labelled ∙ ap (λ u. clash_in_rows n 0 n st (facts n u)) stands.derives)
+      ap is_some (found.told st stands.labelled ∙ ap (λ u. clash_in_rows n 0 n st (facts n u)) stands.derives)
 
-  pub clash_stays : is_clash clash ≡ true
+  pub clash_stays : is_some clash ≡ true
       → Tried n (Standing n closed groups spreads) q true
   clash_stays p =
       record {
@@ -123,7 +124,7 @@ module _ {n : ℕ} {closed : List ℕ} {groups : Groups} {spreads : List Spread}
             sym (still_clashes n st q stands.names names (sym (of_statements st stands) ∙ p));
       }
 
-  pub all_told : {r : Bool} → is_clash clash ≡ false
+  pub all_told : {r : Bool} → is_some clash ≡ false
       → Tried n (Consistent n closed groups spreads) q r
       → Tried n (Standing n closed groups spreads) q r
   all_told p tried =
