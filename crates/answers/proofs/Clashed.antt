@@ -4,13 +4,12 @@ use mathlib.Core.Bool.{true, false}
 use mathlib.Core.List.{List}
 use mathlib.Core.Path.{◌≡◌, refl}
 use native.Mathlib.Omega.{arith}
-use Rattle.fields.specs.declared.numbers.Variable.{Variable}
-use Rattle.fields.specs.Fields.{variable}
+use Rattle.std.specs.Prelude.{None, Some}
 use Rattle.fields.proofs.Choice.{chosen, passed}
 use Rattle.items.specs.declared.items.Statement.{Statement}
 use Rattle.rules.specs.declared.clashes.Clash.{Clash}
 use Rattle.rules.specs.Facts.{compatible, Relation}
-use Rattle.rules.specs.Clashes.{labels_differ, clashes_at, clash_in_row, clash_in_rows}
+use Rattle.rules.specs.Clashes.{labels_differ, clashes_at, clash_between, clash_in_row, clash_in_rows}
 use Rattle.rules.proofs.Logic.{both}
 use Rattle.answers.proofs.Logic.{fails_first, fails_second}
 
@@ -30,7 +29,7 @@ module _ (st : List Statement) (r : Relation) (i j : ℕ) where
 
 -- a row without a clash
 pub row_clear : (st : List Statement) (r : Relation) (i : ℕ) → ((y : ℕ) → clashes_at st r i y ≡ false) → (left j : ℕ)
-    → Clash.Nowhere ≡ clash_in_row left j st r i
+    → None ≡ clash_in_row left j st r i
 unfolding clash_in_row
 row_clear st r i h zero j = refl
 row_clear st r i h (suc left) j = passed _ _ _ (h j) (row_clear st r i h left (suc j))
@@ -39,7 +38,7 @@ module _ (st : List Statement) (r : Relation) where
   -- as many columns of row i, from column j on
   module _ (i j : ℕ) where
     pub row_here : (left : ℕ) → 0 < left → clashes_at st r i j ≡ true
-        → Clash.Between (variable i) (variable j) ≡ clash_in_row left j st r i
+        → Some (clash_between i j) ≡ clash_in_row left j st r i
     unfolding clash_in_row
     row_here zero h p = absurd (omega arith)
     row_here (suc m) h p = chosen _ _ _ p refl
@@ -49,25 +48,25 @@ module _ (st : List Statement) (r : Relation) where
     unfolding clash_in_row
     row_on left rest next e f p = rw (e, f) (passed _ _ _ p refl)
 
-    pub row_over : (left : ℕ) → left ≤ 0 → Clash.Nowhere ≡ clash_in_row left j st r i
+    pub row_over : (left : ℕ) → left ≤ 0 → None ≡ clash_in_row left j st r i
     unfolding clash_in_row
     row_over zero h = refl
     row_over (suc m) h = absurd (omega arith)
 
   -- as many rows of n columns, from row i on
   module _ (n i : ℕ) where
-    pub rows_here : {x y : Variable} (left : ℕ) → 0 < left → Clash.Between x y ≡ clash_in_row n 0 st r i
-        → Clash.Between x y ≡ clash_in_rows left i n st r
+    pub rows_here : {clash : Clash} (left : ℕ) → 0 < left → Some clash ≡ clash_in_row n 0 st r i
+        → Some clash ≡ clash_in_rows left i n st r
     unfolding clash_in_rows
     rows_here zero h p = absurd (omega arith)
     rows_here (suc m) h p = rw (← p)
 
-    pub rows_on : (left rest next : ℕ) → left ≡ suc rest → next ≡ suc i → Clash.Nowhere ≡ clash_in_row n 0 st r i
+    pub rows_on : (left rest next : ℕ) → left ≡ suc rest → next ≡ suc i → None ≡ clash_in_row n 0 st r i
         → clash_in_rows rest next n st r ≡ clash_in_rows left i n st r
     unfolding clash_in_rows
     rows_on left rest next e f p = rw (e, f, ← p)
 
-    pub rows_over : (left : ℕ) → left ≤ 0 → Clash.Nowhere ≡ clash_in_rows left i n st r
+    pub rows_over : (left : ℕ) → left ≤ 0 → None ≡ clash_in_rows left i n st r
     unfolding clash_in_rows
     rows_over zero h = refl
     rows_over (suc m) h = absurd (omega arith)

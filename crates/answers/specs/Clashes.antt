@@ -1,5 +1,5 @@
 -- What is told of F5, whatever statements have their labels kept in counts and labels.
-use Rattle.std.specs.Prelude.{ℕ, Bool, false, List, [], ◌∷◌, ◌++◌, ◌≡◌}
+use Rattle.std.specs.Prelude.{ℕ, Bool, false, List, [], ◌∷◌, ◌++◌, Option, ◌≡◌}
 use Rattle.items.specs.declared.items.Statement.{Statement}
 use Rattle.items.specs.Statements.{AllName}
 use Rattle.rules.specs.declared.clashes.Clash.{Clash}
@@ -10,11 +10,11 @@ use Rattle.rules.specs.Clashes.{clash_in_row, clash_in_rows, clashes}
 use Rattle.labels.specs.Labels.{LabelsStand}
 
 -- the first clash of row i
-pub record RowTold (n : ℕ) (t counts labels : List ℕ) (i : ℕ) (r : Clash) : Type 0 where
+pub record RowTold (n : ℕ) (t counts labels : List ℕ) (i : ℕ) (r : Option Clash) : Type 0 where
   pub told : (st : List Statement) → LabelsStand n st counts labels → r ≡ clash_in_row n 0 st (facts n t) i
 
 -- the first clash of all rows
-pub record ClashTold (n : ℕ) (t counts labels : List ℕ) (r : Clash) : Type 0 where
+pub record ClashTold (n : ℕ) (t counts labels : List ℕ) (r : Option Clash) : Type 0 where
   pub told : (st : List Statement) → LabelsStand n st counts labels → r ≡ clash_in_rows n 0 n st (facts n t)
 
 -- whether consistent statements, of which t has the facts, clash with the label a of i behind them

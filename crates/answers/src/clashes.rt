@@ -15,12 +15,12 @@ fn clash_in_row(
     counts: &[u8; MOST_VARIABLES],
     labels: &[u16; MOST_VARIABLES],
     i: usize,
-) -> Clash
+) -> Option<Clash>
     requires { Lent n t.now × (i < n) }
     ensures { RowTold n t.now counts.now labels.now i result }
 {
     if counts[i] == 0 {
-        return Clash::Nowhere;
+        return None;
     }
     let mut left = n;
     while 0 < left {
@@ -28,11 +28,14 @@ fn clash_in_row(
         left -= 1;
         if has_fact(t, n, true, i, at) {
             if labels_differ(counts, labels, i, at) {
-                return Clash::Between(Variable(i as u8), Variable(at as u8));
+                return Some(Clash {
+                    first: Variable(i as u8),
+                    second: Variable(at as u8),
+                });
             }
         }
     }
-    Clash::Nowhere
+    None
 }
 
 // The clash at the least row, and there at the least column.
@@ -41,7 +44,7 @@ pub fn clash_of(
     n: usize,
     counts: &[u8; MOST_VARIABLES],
     labels: &[u16; MOST_VARIABLES],
-) -> Clash
+) -> Option<Clash>
     requires { Lent n t.now }
     ensures { ClashTold n t.now counts.now labels.now result }
 {
@@ -49,13 +52,13 @@ pub fn clash_of(
     while 0 < left {
         let i = n - left;
         match clash_in_row(t, n, counts, labels, i) {
-            Clash::Nowhere => {
+            None => {
                 left -= 1;
             }
-            Clash::Between(x, y) => return Clash::Between(x, y),
+            Some(clash) => return Some(clash),
         }
     }
-    Clash::Nowhere
+    None
 }
 
 // Whether the label a of i would clash with a label that is stated.

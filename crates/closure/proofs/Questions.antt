@@ -5,6 +5,7 @@ use mathlib.Core.List.Memᴰ
 use mathlib.Core.List.{List}
 use mathlib.Core.Logic.{◌⊎◌, inl, inr}
 use mathlib.Core.Path.{◌≡◌, sym, ap, ◌∙◌}
+use Rattle.std.specs.Prelude.{Option, is_some}
 use Rattle.fields.specs.declared.numbers.Feature.{Feature}
 use Rattle.fields.specs.declared.numbers.Variable.{Variable}
 use Rattle.items.specs.declared.items.Statement.{Statement}
@@ -13,7 +14,7 @@ use Rattle.rules.specs.declared.clashes.Clash.{Clash}
 use Rattle.rules.specs.Stated.{selection}
 use Rattle.rules.specs.Facts.{Kind, fact}
 use Rattle.rules.specs.Tables.{facts}
-use Rattle.rules.specs.Clashes.{clash_in_rows, clash_of, is_clash, clashes}
+use Rattle.rules.specs.Clashes.{clash_in_rows, clash_of, clashes}
 use Rattle.rules.proofs.Lists.{all_with}
 use Rattle.facts.specs.Additions.{Said}
 use Rattle.facts.proofs.Sets.{among_none}
@@ -104,15 +105,15 @@ module _ {n : ℕ} {closed starts ends features children counts labels : List �
       }
 
 -- all statements that stand in the arrays: where they clash, they clash with q
-module _ {n : ℕ} {closed starts ends features children counts labels : List ℕ} {clash : Clash}
+module _ {n : ℕ} {closed starts ends features children counts labels : List ℕ} {clash : Option Clash}
     (found : ClashTold n closed counts labels clash) (q : Statement) (names : Names n q) where
   of_statements : (st : List Statement) → Standing n closed starts ends features children counts labels st
-      → is_clash clash ≡ clashes st n
+      → is_some clash ≡ clashes st n
   unfolding clash_of clashes
   of_statements st stands =
-      ap is_clash (found.told st stands.labelled ∙ ap (λ u. clash_in_rows n 0 n st (facts n u)) stands.derives)
+      ap is_some (found.told st stands.labelled ∙ ap (λ u. clash_in_rows n 0 n st (facts n u)) stands.derives)
 
-  pub clash_stays : is_clash clash ≡ true
+  pub clash_stays : is_some clash ≡ true
       → Tried n (Standing n closed starts ends features children counts labels) q true
   clash_stays p =
       record {
@@ -120,7 +121,7 @@ module _ {n : ℕ} {closed starts ends features children counts labels : List �
             sym (still_clashes n st q stands.names names (sym (of_statements st stands) ∙ p));
       }
 
-  pub all_told : {r : Bool} → is_clash clash ≡ false
+  pub all_told : {r : Bool} → is_some clash ≡ false
       → Tried n (Consistent n closed starts ends features children counts labels) q r
       → Tried n (Standing n closed starts ends features children counts labels) q r
   all_told p tried =

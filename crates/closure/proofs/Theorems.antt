@@ -4,13 +4,14 @@ use lib.ListN.{length}
 use mathlib.Core.Bool.{Bool}
 use mathlib.Core.List.{List, [], ◌∷◌, ◌++◌}
 use mathlib.Core.Path.{◌≡◌, sym, ap, ◌∙◌}
+use Rattle.std.specs.Prelude.{Option, None, is_some}
 use Rattle.items.specs.declared.items.Statement.{Statement}
 use Rattle.items.specs.Statements.{Names, AllName}
 use Rattle.rules.specs.declared.clashes.Clash.{Clash}
 use Rattle.rules.specs.Facts.{Kind}
 use Rattle.rules.specs.Tables.{facts, count_facts}
 use Rattle.rules.specs.Derived.{derived, facts_of}
-use Rattle.rules.specs.Clashes.{clash_in_rows, clash_of, is_clash, clashes}
+use Rattle.rules.specs.Clashes.{clash_in_rows, clash_of, clashes}
 use Rattle.rules.specs.Support.{supported}
 use Rattle.table.specs.Queue.{queue_room}
 use Rattle.selections.specs.Listed.{Selections, Listed}
@@ -68,7 +69,7 @@ module _ {n : ℕ} {subjects features children starts₀ ends₀ features₀ chi
       count_is kind r e = e ∙ ap (λ u. count_facts n (facts n u) kind) is_derived_table
 
       module _ {counts labels : List ℕ} (labelled : LabelsStand n st counts labels) where
-        pub clash_is : (r : Clash) → ClashTold n t counts labels r → r ≡ clash_of st n
+        pub clash_is : (r : Option Clash) → ClashTold n t counts labels r → r ≡ clash_of st n
         unfolding clash_of
         clash_is r told = told.told st labelled ∙ ap (λ u. clash_in_rows n 0 n st (facts n u)) is_derived_table
 
@@ -91,7 +92,7 @@ module _ {n : ℕ} {subjects features children starts₀ ends₀ features₀ chi
         trial_is q r tried = tried.answer st stands
 
         -- where no clash is told
-        pub one_label_each : ClashTold n t counts labels Clash.Nowhere → SingleLabels n counts
+        pub one_label_each : ClashTold n t counts labels None → SingleLabels n counts
         unfolding clashes
         one_label_each nowhere =
-            single_labels_lem labelled names (sym (ap is_clash (clash_is Clash.Nowhere nowhere)))
+            single_labels_lem labelled names (sym (ap is_some (clash_is None nowhere)))

@@ -1,5 +1,5 @@
 -- Groups that were made of a selection list, the table that was derived with them, and what can be asked of both.
-use Rattle.std.specs.Prelude.{ℕ, List, ◌≡◌}
+use Rattle.std.specs.Prelude.{ℕ, List, Option, ◌≡◌}
 use Rattle.headers.specs.Headers.{size_for}
 use Rattle.rules.specs.declared.clashes.Clash.{Clash}
 use Rattle.selections.specs.Listed.{Selections}
@@ -28,7 +28,7 @@ pub record Made (n : ℕ) (cells lefts rights subjects features children : List 
   pub from : DerivedFrom n cells lefts rights starts ends group_features group_children t
 
 -- a closed table with a copy, the groups that it is closed by, its labels, and what is told of them
-pub record Answerable (n : ℕ) (closed t queue starts ends features children counts labels : List ℕ) (clash : Clash)
+pub record Answerable (n : ℕ) (closed t queue starts ends features children counts labels : List ℕ) (clash : Option Clash)
     (spread : Spread) : Type 0 where
   pub copied : t ≡ closed
   pub trying : Trying n closed queue starts ends features children

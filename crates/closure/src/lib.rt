@@ -5,4 +5,4 @@ mod making;
 mod trials;
 
 pub use making::make;
-pub use trials::{is_clash, trial};
+pub use trials::trial;

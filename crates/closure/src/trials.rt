@@ -1,6 +1,5 @@
 // Trials: whether one statement more would clash.
 ghost use Rattle.std.specs.Prelude.{◌*◌, length, ◌≡◌};
-ghost use Rattle.rules.specs.Clashes.{is_clash};
 ghost use Rattle.table.specs.Queue.{queue_room};
 ghost use Rattle.facts.specs.Additions.{Said};
 ghost use Rattle.selections.specs.Groups.{Grouped};
@@ -292,22 +291,12 @@ fn try_where_labels_differ(
     false
 }
 
-// Whether a pair clashes.
-pub fn is_clash(clash: Clash) -> bool
-    ensures { result ≡ is_clash clash }
-{
-    match clash {
-        Clash::Nowhere => false,
-        Clash::Between(i, j) => true,
-    }
-}
-
 // Whether the statements clash with q behind them: the clash is theirs without q, and t a copy of the closed table.
 pub fn trial(
     closed: &[u8],
     t: &mut [u8],
     n: usize,
-    clash: Clash,
+    clash: Option<Clash>,
     spread: Spread,
     q: Statement,
     starts: &[usize; MOST_VARIABLES],
@@ -328,7 +317,7 @@ pub fn trial(
     ensures restored { Restored ends.old features.old children.old ends.new
         features.new children.new queue.new }
 {
-    if is_clash(clash) {
+    if clash.is_some() {
         return true;
     }
     try_where_labels_differ(

@@ -3,6 +3,7 @@ use Prim.Native.Nat.{ℕ}
 use lib.ListN.{length, replicate}
 use mathlib.Core.List.{List, map}
 use mathlib.Core.Path.{◌≡◌, sym, ap, subst, ◌∙◌}
+use Rattle.std.specs.Prelude.{Option}
 use Rattle.fields.specs.declared.numbers.Cursor.{Cursor}
 use Rattle.headers.specs.declared.headers.Header.{Header}
 use Rattle.items.specs.Statements.{AllName}
@@ -59,14 +60,14 @@ module _ {b : List ℕ} {h : Header} {asked : Cursor} {facts₀ work replies : L
           listed = l.selections_stand;
         }
 
-    clash_told : (clash : Clash) → ClashTold h.variables t counts labels clash
+    clash_told : (clash : Option Clash) → ClashTold h.variables t counts labels clash
         → clash ≡ clash_of (sheet_of b).stated (sheet_of b).n
     clash_told clash told =
         rw (accepted_variables b h asked a.questions.accepted)
         (clash_is l.lawful_selections made.grouping made.from sheet_names l.pairs_stand
         l.selections_stand l.labelled clash told)
 
-    pub lists_answering : {queue : List ℕ} {clash : Clash} {verdict : Verdict} → length queue ≡ queue_room
+    pub lists_answering : {queue : List ℕ} {clash : Option Clash} {verdict : Verdict} → length queue ≡ queue_room
         → length t ≡ length work → ClashTold h.variables t counts labels clash → verdict ≡ verdict_by clash
         → Answering verdict b h asked t work subjects features children starts ends group_features group_children counts
         labels queue replies
@@ -83,7 +84,7 @@ module _ {b : List ℕ} {h : Header} {asked : Cursor} {facts₀ work replies : L
         }
 
     -- so all is as it has to be
-    pub lists_filled : {work' replies' : List ℕ} {clash : Clash} {verdict : Verdict} {r : Outcome}
+    pub lists_filled : {work' replies' : List ℕ} {clash : Option Clash} {verdict : Verdict} {r : Outcome}
         → ClashTold h.variables t counts labels clash → verdict ≡ verdict_by clash
         → r ≡ outcome_by h.variables (facts h.variables t) verdict
         → work' ≡ where_consistent verdict (replicate (length work) 0) work

@@ -1,10 +1,9 @@
 -- The steps of a check of an accepted sheet, on buffers of exactly the size in use.
-use Rattle.std.specs.Prelude.{ℕ, length, replicate, List, map, ◌≡◌}
+use Rattle.std.specs.Prelude.{ℕ, length, replicate, List, map, None, ◌≡◌}
 use Rattle.fields.specs.declared.numbers.Cursor.{Cursor}
 use Rattle.headers.specs.declared.headers.Header.{Header}
 use Rattle.headers.specs.Headers.{size_for, table_size}
 use Rattle.sheet.specs.Sheets.{Sheet}
-use Rattle.rules.specs.declared.clashes.Clash.{Clash}
 use Rattle.rules.specs.declared.verdicts.Verdict.{Verdict}
 use Rattle.rules.specs.Derived.{facts_of}
 use Rattle.rules.specs.Tables.{table_bytes}
@@ -32,7 +31,7 @@ pub record Answering (verdict : Verdict) (s : List ℕ) (h : Header) (asked : Cu
   pub same_size : length closed ≡ length work
   pub selections : Selections h.variables subjects features children
   pub trying : Trying h.variables closed queue starts ends group_features group_children
-  pub no_clash : verdict ≡ Verdict.Consistent → ClashTold h.variables closed counts labels Clash.Nowhere
+  pub no_clash : verdict ≡ Verdict.Consistent → ClashTold h.variables closed counts labels None
   pub single : verdict ≡ Verdict.Consistent → SingleLabels h.variables counts
 
 -- the outcome of a sheet, its table, and where nothing clashes a cleared second table and the replies

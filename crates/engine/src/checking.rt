@@ -15,7 +15,7 @@ use fields::MOST_VARIABLES;
 use labels::spread_of;
 use outcomes::{Outcome, judge, outcome_of};
 use replies::reply_all;
-use rules::{Verdict, verdict_of};
+use rules::Verdict;
 use selections::PLACES;
 use sheet::{Cursor, Header, Refusal, SheetRead};
 use statements::{PAIRS, SELECTIONS, gather};
@@ -132,7 +132,7 @@ fn check_lists(
         &mut group_children,
         &mut queue,
     );
-    let verdict = verdict_of(clash_of(facts, n, counts, labels));
+    let verdict = Verdict::from(clash_of(facts, n, counts, labels));
     answer(
         verdict,
         sheet,

@@ -1,5 +1,5 @@
 -- When questions can be replied to, and what the replies are.
-use Rattle.std.specs.Prelude.{ℕ, length, List, ◌≡◌}
+use Rattle.std.specs.Prelude.{ℕ, length, List, None, ◌≡◌}
 use Rattle.fields.specs.declared.numbers.Cursor.{Cursor}
 use Rattle.headers.specs.declared.headers.Header.{Header}
 use Rattle.headers.specs.Headers.{reply_count}
@@ -7,7 +7,6 @@ use Rattle.items.specs.declared.items.Statement.{Statement}
 use Rattle.items.specs.Questions.{Query}
 use Rattle.sheet.specs.declared.whole.SheetRead.{SheetRead}
 use Rattle.sheet.specs.Sheets.{sheet, read_sheet}
-use Rattle.rules.specs.declared.clashes.Clash.{Clash}
 use Rattle.rules.specs.declared.replies.Reply.{Reply}
 use Rattle.rules.specs.Replies.{reply_to}
 use Rattle.selections.specs.Listed.{Selections, Listed}
@@ -20,7 +19,7 @@ use Rattle.closure.specs.Making.{Answerable}
 -- a closed table in which nothing clashes, with a copy; the selection list, its groups, and the labels
 pub record Replying (n : ℕ) (closed t queue subjects features children : List ℕ)
     (starts ends group_features group_children counts labels : List ℕ) (spread : Spread) : Type 0 where
-  pub answerable : Answerable n closed t queue starts ends group_features group_children counts labels Clash.Nowhere
+  pub answerable : Answerable n closed t queue starts ends group_features group_children counts labels None
       spread
   pub selections : Selections n subjects features children
   pub single : SingleLabels n counts

@@ -10,7 +10,7 @@ use closure::trial;
 use fields::MOST_VARIABLES;
 use items::{Question, Statement};
 use labels::Spread;
-use rules::{Clash, Reply};
+use rules::Reply;
 use selections::PLACES;
 use table::ROOM;
 
@@ -50,7 +50,7 @@ fn reply_statement(
         closed,
         t,
         n,
-        Clash::Nowhere,
+        None,
         spread,
         x,
         starts,

@@ -67,7 +67,7 @@ pub fn reply_all(
                     labels,
                     queue,
                 );
-                replies[k] = answer.number();
+                replies[k] = u8::from(answer);
                 cursor = next;
                 left -= 1;
                 k += 1;

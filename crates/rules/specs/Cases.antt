@@ -1,5 +1,6 @@
 -- Worked cases: bytes of a sheet beside what the definitions must give for them.
-use Rattle.std.specs.Prelude.{ℕ, zero, suc, List, [], ◌∷◌, map, ◌≡◌}
+use Rattle.std.specs.Prelude.{ℕ, zero, suc, List, [], ◌∷◌, map, None, Some, ◌≡◌}
+use Rattle.std.specs.Prelude as Prelude
 use Rattle.std.proofs.Math.Option.{Option, none, some}
 use Rattle.fields.specs.declared.refusals.Refusal.{Refusal}
 use Rattle.fields.specs.Refusals.{number_of}
@@ -40,11 +41,11 @@ counts_of s =
     (count_facts s.n (facts_of s.stated s.n) compatible)
 
 -- where no labels clash there are counts and replies
-abbrev pub of_sheet : List ℕ → Sheet → Clash → Case
-of_sheet bytes s Clash.Nowhere =
+abbrev pub of_sheet : List ℕ → Sheet → Prelude.Option Clash → Case
+of_sheet bytes s None =
     row bytes s.n (counts_of s) (labels_from s.n 0 s.stated) (map reply_number (replies_of s))
-of_sheet bytes s (Clash.Between i j) =
-    row bytes s.n (clash i.0 j.0) (labels_from s.n 0 s.stated) []
+of_sheet bytes s (Some pair) =
+    row bytes s.n (clash pair.first.0 pair.second.0) (labels_from s.n 0 s.stated) []
 
 abbrev pub of_accepted : List ℕ → Sheet → Case
 of_accepted bytes s = of_sheet bytes s (clash_of s.stated s.n)

@@ -8,4 +8,4 @@ mod verdicts;
 
 pub use clashes::Clash;
 pub use replies::Reply;
-pub use verdicts::{Verdict, verdict_of};
+pub use verdicts::Verdict;

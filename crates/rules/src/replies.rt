@@ -9,12 +9,12 @@ pub enum Reply {
     Open,
 }
 
-impl Reply {
-    // Its number, as a reply byte.
-    pub fn number(self) -> u8
-        ensures { result ≡ reply_number self }
-    {
-        match self {
+// Its number, as a reply byte.
+impl From<Reply> for u8 {
+    ghost from_gives = { λ reply number. number ≡ reply_number reply };
+
+    fn from(reply: Reply) -> u8 {
+        match reply {
             Reply::Always => 0,
             Reply::Never => 1,
             Reply::Open => 2,

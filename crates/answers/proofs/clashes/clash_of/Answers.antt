@@ -7,15 +7,15 @@ pub loop-left-preserved : goal.loop-left-preserved
 loop-left-preserved c = (
   omega arith,
   λ st stand.
-      rows_on st _ _ _ _ _ _ (omega arith) (omega arith) (c.in-Nowhere.ensures.told st stand)
+      rows_on st _ _ _ _ _ _ (omega arith) (omega arith) (c.in-None.ensures.told st stand)
       ∙ c.loop-left.invariant.1 st stand,
 )
 
-pub returns-in-Between : goal.returns-in-Between
-returns-in-Between c =
+pub returns-in-Some : goal.returns-in-Some
+returns-in-Some c =
     record {
       told = λ st stand.
-          rows_here st _ _ _ _ c.loop-left-test.true (c.in-Between.ensures.told st stand)
+          rows_here st _ _ _ _ c.loop-left-test.true (c.in-Some.ensures.told st stand)
           ∙ c.loop-left.invariant.1 st stand;
     }
 

@@ -8,7 +8,7 @@ make-requires-clause-lawful c = lists_lawful c.requires.accepting c.requires.in_
 pub answer-requires-clause-answering : goal.answer-requires-clause-answering
 answer-requires-clause-answering c =
     lists_answering c.requires.accepting c.requires.in_lists c.make.ensures.made (cc) (cc) c.clash_of.ensures
-    c.verdict_of-verdict.ensures
+    c.from-verdict.ensures
 
 pub answer-requires-clause-held : goal.answer-requires-clause-held
 answer-requires-clause-held c = lists_held c.requires.accepting c.requires.in_lists c.make.ensures.made
@@ -16,4 +16,4 @@ answer-requires-clause-held c = lists_held c.requires.accepting c.requires.in_li
 pub returns : goal.returns
 returns c =
     lists_filled c.requires.accepting c.requires.in_lists c.make.ensures.made c.clash_of.ensures
-    c.verdict_of-verdict.ensures c.outcome_of.ensures c.answer.ensures.cleared c.answer.ensures.replied
+    c.from-verdict.ensures c.outcome_of.ensures c.answer.ensures.cleared c.answer.ensures.replied

@@ -14,7 +14,7 @@ reply-answer-requires-clause-names c =
 pub loop-left-preserved : goal.loop-left-preserved
 loop-left-preserved c =
     let r = c.reply-answer.ensures in
-    going_next c.loop-left.invariant c.loop-left-test.true (sym c.in-Asks.ensures) r.told c.number.ensures
+    going_next c.loop-left.invariant c.loop-left-test.true (sym c.in-Asks.ensures) r.told c.from.ensures
     r.copied r.restored
 
 pub returns-in-Refused-clause-written : goal.returns-in-Refused-clause-written
