@@ -1,5 +1,6 @@
 -- The labels stated for each variable, as they are kept: none, one, or several.
 use Rattle.std.specs.Prelude.{ℕ, ◌<◌, length, set, Bool, not, List, ◌≡◌}
+use Rattle.fields.specs.declared.numbers.Label.{Label}
 use Rattle.fields.specs.Fields.{label}
 use Rattle.fields.specs.Limits.{most_variables}
 use Rattle.fields.specs.Tests.{same}
@@ -24,10 +25,10 @@ pub record TwoLabels (st : List Statement) (i : ℕ) : Type 0 where
   pub differs : first ≡ second → ⊥
 
 -- a spread tells what st states of the labels of i
-abbrev pub LabelsAt : List Statement → ℕ → Spread → Type 0
-LabelsAt st i Spread.Nothing = (a : ℕ) → Stated st (labelling i a) → ⊥
-LabelsAt st i (Spread.One a) = OnlyLabel st i a.0
-LabelsAt st i Spread.Several = TwoLabels st i
+pub data LabelsAt (st : List Statement) (i : ℕ) : Spread → Type 0 where
+  none : ((a : ℕ) → Stated st (labelling i a) → ⊥) → LabelsAt st i Spread.Nothing
+  one : {a : Label} → OnlyLabel st i a.0 → LabelsAt st i (Spread.One a)
+  several : TwoLabels st i → LabelsAt st i Spread.Several
 
 -- spreads tell it of the variables below n
 pub record LabelsStand (n : ℕ) (st : List Statement) (spreads : List Spread) : Type 0 where

@@ -11,6 +11,12 @@ has_any Spread.Nothing = false
 has_any (Spread.One b) = true
 has_any Spread.Several = true
 
+-- there are labels that differ
+abbrev pub is_several : Spread → Bool
+is_several Spread.Nothing = false
+is_several (Spread.One b) = false
+is_several Spread.Several = true
+
 -- a is the one label
 abbrev pub is_only : Spread → ℕ → Bool
 is_only Spread.Nothing a = false

@@ -34,6 +34,7 @@ impl Labels {
     }
 
     // Whether a label other than a is stated for j.
+    #[tactic(auto, using(crate::proofs::Kept::by_other))]
     pub fn has_other(&self, j: usize, a: Label) -> bool
         requires { j < most_variables }
         ensures { OtherTold self.now.spreads j a.0 result }
@@ -42,6 +43,7 @@ impl Labels {
     }
 
     // Whether two different labels are stated for i and j.
+    #[tactic(auto, using(crate::proofs::Kept::by_differ))]
     pub fn differ(&self, i: usize, j: usize) -> bool
         requires { (i < most_variables) × (j < most_variables) }
         ensures { DifferTold self.now.spreads i j result }
