@@ -8,13 +8,14 @@ use mathlib.Core.Path.{◌≡◌, refl, sym, ap, subst, ◌∙◌}
 use native.Mathlib.Omega.{arith}
 use Rattle.fields.specs.Tests.{less, same, pick}
 use Rattle.fields.proofs.Choice.{is_same, same_true, same_false, chosen, passed}
-use Rattle.rules.specs.Connectives.{◌or◌}
+use Rattle.rules.specs.Connectives.{◌and◌, ◌or◌}
 use Rattle.rules.specs.Facts.{Kind, ordered, compatible, Relation, Holds, Within}
 use Rattle.rules.specs.Tables.{says, cell_at, facts, Shape}
 use Rattle.rules.proofs.Cells.{says_nothing}
-use Rattle.rules.proofs.Logic.{decided, contrary}
+use Rattle.rules.proofs.Logic.{decided, contrary, both, first_of_and}
 use Rattle.rules.proofs.Tables.{fact_row, fact_column, fact_said}
 use Rattle.table.specs.Cells.{is_lacking}
+use Rattle.table.specs.declared.queue.Entry.{Entry}
 use Rattle.table.specs.Queue.{State, state}
 use Rattle.facts.specs.Additions.{Said, Added, Framed, Steps}
 use Rattle.facts.specs.Insertion.{Sides, along, back, RowsTaken, mark_of, cell_taken_at, Columns, Rows, Row}
@@ -51,6 +52,19 @@ unfolding is_lacking
 has_all kind cell w h g e p =
     decided (same (bit_or cell w) cell) (λ q. says_already kind cell w h g (same_true _ _ q) p)
     (λ q. absurd (contrary (ap not q) e))
+
+-- the mark of a variable, by whether it is below u
+pub mark_not_below : (n : ℕ) (t : List ℕ) (w u v x : ℕ) → says ordered (cell_at n t x u) ≡ false
+    → mark_of n t w u v x ≡ false
+unfolding mark_of ◌and◌
+mark_not_below n t w u v x e = rw e
+
+pub mark_below : (n : ℕ) (t : List ℕ) (w u v x : ℕ) → says ordered (cell_at n t x u) ≡ true
+    → mark_of n t w u v x ≡ is_lacking (cell_at n t x v) w
+unfolding mark_of ◌and◌
+mark_below n t w u v x e = rw e
+
+pub ruleset marks = (mark_not_below, mark_below)
 
 -- what a cell that is looked at lacks, and what it says
 pub ruleset lacking = (lacking_positive, has_all, fact_said)
@@ -125,28 +139,22 @@ module _ (n : ℕ) (t : List ℕ) (w u v : ℕ) (shape : Shape n t) (framed : Fr
   row_cells row rows = record { cells = λ y b. rw (rows.cells y b) (taken_small y b) }
 
   -- a variable that is marked is below u, and one below u is marked or has it all
-  marked_below : (x : ℕ) → x < n → mark_of n t w u v x ≡ 1 → Holds (facts n t) ordered x u
-  unfolding mark_of pick
-  marked_below x b = of (says ordered (cell_at n t x u)) refl
-    where
-      of : (a : Bool) → says ordered (cell_at n t x u) ≡ a
-          → ◌≡◌ {A = ℕ} (pick a (pick (is_lacking (cell_at n t x v) w) 1 0) 0) 1 → Holds (facts n t) ordered x u
-      of true p e = said ordered x u b h p
-      of false p e = absurd (omega arith)
+  marked_below : (x : ℕ) → x < n → mark_of n t w u v x ≡ true → Holds (facts n t) ordered x u
+  unfolding mark_of
+  marked_below x b e = said ordered x u b h (first_of_and _ _ e)
 
-  below_marked : {C : Type 0} (x : ℕ) → Holds (facts n t) ordered x u → (mark_of n t w u v x ≡ 1 → C)
+  below_marked : {C : Type 0} (x : ℕ) → Holds (facts n t) ordered x u → (mark_of n t w u v x ≡ true → C)
       → (((kind : Kind) → says kind w ≡ true → Holds (facts n t) kind x v) → C) → C
   unfolding mark_of
   below_marked x p mark there =
       let b = fact_row n t ordered x u p in
-      decided (is_lacking (cell_at n t x v) w)
-      (λ a. mark (sym (chosen _ _ 0 (says_it ordered x u p) (chosen _ _ 0 a refl))))
+      decided (is_lacking (cell_at n t x v) w) (λ a. mark (both (says_it ordered x u p) a))
       (λ a. there (λ kind q. said kind x v b g (has_all kind _ w (shape.cells x v b g) small a q)))
 
-  module _ (q : List ℕ) (tail : ℕ) (s' : State) (column row : List ℕ) (columns : Columns n t w u v column)
-      (rows : Rows n t w v row) (added : Added n (RowsTaken n column row) (state t q tail) s') where
+  module _ (q : List Entry) (s' : State) (column : List Bool) (row : List ℕ) (columns : Columns n t w u v column)
+      (rows : Rows n t w v row) (added : Added n (RowsTaken n column row) (state t q) s') where
     -- what is taken is a fact of the new table, on both sides
-    taken_at : (kind : Kind) (x y i j : ℕ) → Holds (facts n t) ordered x u → y < n → mark_of n t w u v x ≡ 1
+    taken_at : (kind : Kind) (x y i j : ℕ) → Holds (facts n t) ordered x u → y < n → mark_of n t w u v x ≡ true
         → Sides (cell_taken_at n t w v y) x y kind i j → Holds (facts n s'.table) kind i j
     taken_at kind x y i j p b mark sides =
         let a = fact_row n t ordered x u p in
@@ -287,7 +295,7 @@ module _ (n : ℕ) (t : List ℕ) (w u v : ℕ) (shape : Shape n t) (framed : Fr
       from_within kind i j (turned e p takes) =
           subst (λ k. Holds r k i j) (sym e) (closed.symmetric j i (takes_within compatible j i p takes))
 
-    pub inserted : Steps n (Said w u v) (state t q tail) s'
+    pub inserted : Steps n (Said w u v) (state t q) s'
     inserted =
         record {
           moves = added.moves;

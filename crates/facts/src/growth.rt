@@ -5,7 +5,7 @@ ghost use Rattle.facts.specs.Growth.{state_of, IsSame};
 ghost use Rattle.facts.specs.Insertion.{Taking, TakingRow, TakingRows, Sides, RowTaken, RowsTaken};
 
 use fields::MOST_VARIABLES;
-use table::{Queue, Table, push};
+use table::{Queue, Table, push, says_compatible};
 
 // The table, and the pairs whose cells changed.
 #[derive(Drop)]
@@ -37,14 +37,12 @@ impl Growth<'_> {
         ensures added { Added self.old.table.n (Sides w x y) (state_of self.old) (state_of self.new) }
         ensures same { IsSame self.old self.new }
     {
-        if w == 0 {
-            return;
+        if w != 0 {
+            self.take_cell(w, x, y);
         }
-        self.take_cell(w, x, y);
-        if w < 2 {
-            return;
+        if says_compatible(w) {
+            self.take_cell(2, y, x);
         }
-        self.take_cell(2, y, x);
     }
 
     // x takes a row.

@@ -12,8 +12,8 @@ use fields::MOST_VARIABLES;
 use table::{Table, lacks, says_ordered};
 
 // Whether x is below u and lacks w at v.
-#[tactic(auto, unfolding(crate::specs::Insertion::mark_of, rules::specs::Connectives::◌and◌))]
-fn mark(table: &Table<'_>, w: u8, u: usize, v: usize, x: usize) -> bool
+#[tactic(auto, using(crate::proofs::Inserting::marks))]
+fn mark(table: &Table, w: u8, u: usize, v: usize, x: usize) -> bool
     requires below { Cell table.now.n table.now.cells.now x u }
     requires lacking { Cell table.now.n table.now.cells.now x v }
     ensures { result ≡ mark_of table.now.n table.now.cells.now w u v x }
@@ -22,7 +22,7 @@ fn mark(table: &Table<'_>, w: u8, u: usize, v: usize, x: usize) -> bool
 }
 
 // Marks what is below u and lacks w at v.
-fn read_column(table: &Table<'_>, w: u8, u: usize, v: usize) -> [bool; MOST_VARIABLES]
+fn read_column(table: &Table, w: u8, u: usize, v: usize) -> [bool; MOST_VARIABLES]
     requires { Looking table.now.n table.now.cells.now u v }
     ensures { Columns table.now.n table.now.cells.now w u v result }
 {
@@ -35,7 +35,7 @@ fn read_column(table: &Table<'_>, w: u8, u: usize, v: usize) -> [bool; MOST_VARI
 
 // The cell at y that is taken by what is below a variable, once w holds of it and v.
 #[tactic(auto, unfolding(crate::specs::Insertion::cell_taken_at, fields::specs::Tests::pick))]
-fn taken(table: &Table<'_>, w: u8, v: usize, y: usize) -> u8
+fn taken(table: &Table, w: u8, v: usize, y: usize) -> u8
     requires along { Cell table.now.n table.now.cells.now v y }
     requires back { Cell table.now.n table.now.cells.now y v }
     ensures { result ≡ cell_taken_at table.now.n table.now.cells.now w v y }
@@ -50,7 +50,7 @@ fn taken(table: &Table<'_>, w: u8, v: usize, y: usize) -> u8
 }
 
 // The row that is taken so.
-fn read_row(table: &Table<'_>, w: u8, v: usize) -> [u8; MOST_VARIABLES]
+fn read_row(table: &Table, w: u8, v: usize) -> [u8; MOST_VARIABLES]
     requires { Looking table.now.n table.now.cells.now v v }
     ensures { Rows table.now.n table.now.cells.now w v result }
 {

@@ -10,7 +10,7 @@ use table::{Entry, Table};
 
 impl Growth<'_> {
     // Gives the pair of an entry its cell of the other table.
-    fn restore_entry(&mut self, other: &Table<'_>, entry: Entry)
+    fn restore_entry(&mut self, other: &Table, entry: Entry)
         requires there { Cell other.now.n other.now.cells.now entry.first.0 entry.second.0 }
         requires here { Cell self.old.table.n self.old.table.cells.now entry.first.0 entry.second.0 }
         ensures { self.new ≡ with_table self.old (with_cell self.old.table.n self.old.table.cells.now
@@ -23,18 +23,20 @@ impl Growth<'_> {
     }
 
     // Gives each pair of the queue, from one place on, its cell of the other table.
-    fn restore_queued(&mut self, other: &Table<'_>, from: usize)
+    fn restore_queued(&mut self, other: &Table, from: usize)
         requires sizes { other.now.n ≡ self.old.table.n }
         requires restoring { Restoring self.old.table.n other.now.cells.now (state_of self.old) from }
-        ensures { self.new ≡ with_table self.old other.now.cells.now }
+        ensures table { self.new.table.cells.now ≡ other.now.cells.now }
+        ensures same { IsSame self.old self.new }
     {
         for k in from..self.queue.len() {
-            self.restore_entry(other, self.queue[k]);
+            let entry = self.queue[k];
+            self.restore_entry(other, entry);
         }
     }
 
     // Makes the table the other one again: by the queue where that is short, else as a whole; the queue is empty then.
-    pub fn restore(&mut self, other: &Table<'_>, from: usize)
+    pub fn restore(&mut self, other: &Table, from: usize)
         requires sizes { other.now.n ≡ self.old.table.n }
         requires restoring { Restoring self.old.table.n other.now.cells.now (state_of self.old) from }
         ensures table { self.new.table.cells.now ≡ other.now.cells.now }

@@ -1,9 +1,9 @@
 -- Entries of the queue: between wider bounds, in a queue that has the same there, and one more behind the others.
 use Prim.Native.Nat.{ℕ, ◌+◌, ◌<◌, ◌≤◌}
-use lib.ListN.{length, get_or, length-append, get_or-append}
+use lib.ListN.{length, length-append, get_or-append}
 use lib.Seq.{get_or-append-add}
 use mathlib.Core.List.{List, [], ◌∷◌, ◌++◌}
-use mathlib.Core.Path.{◌≡◌, refl, sym, ap, ◌∙◌}
+use mathlib.Core.Path.{◌≡◌, sym, ap, ◌∙◌}
 use native.Mathlib.Omega.{arith}
 use Rattle.fields.specs.Tests.{same}
 use Rattle.fields.proofs.Choice.{same_true, same_false}
@@ -68,8 +68,8 @@ module _ (queue : List Entry) (e : Entry) where
   pushed_there = ap (entry_at pushed) (omega arith) ∙ get_or-append-add queue (e ∷ []) 0 no_entry
 
 -- the entry of x and y behind the entries so far
-module _ (n : ℕ) (queue : List Entry) (x y : ℕ) where
-  pub pushed_entry : x < n → y < n → IsEntry n (entry_at (queue ++ entry x y ∷ []) (length queue))
+module _ (queue : List Entry) (x y : ℕ) where
+  pub pushed_entry : {n : ℕ} → x < n → y < n → IsEntry n (entry_at (queue ++ entry x y ∷ []) (length queue))
   pushed_entry h g = rw (pushed_there queue (entry x y)) (record { first = h; second = g })
 
   pub pushed_queued : Queued (queue ++ entry x y ∷ []) (length queue) (length queue + 1) x y

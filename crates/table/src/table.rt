@@ -47,7 +47,7 @@ impl Table<'_> {
     }
 
     // The facts of another table of the same size.
-    pub fn copy_from(&mut self, other: &Table<'_>)
+    pub fn copy_from(&mut self, other: &Table)
         requires { length other.now.cells.now ≡ length self.old.cells.now }
         ensures { self.new ≡ with_cells self.old other.now.cells.now }
     {

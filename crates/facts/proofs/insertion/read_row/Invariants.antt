@@ -1,8 +1,13 @@
 -- With each turn one more cell of the row is read.
-use Rattle.std.proofs.Common.{ℕ, ◌<◌, ◌≡◌, get_or}
+use Rattle.std.proofs.Common.{ℕ, ◌<◌, ◌≡◌, length, get_or}
+use Rattle.fields.specs.Limits.{most_variables}
 use Rattle.facts.specs.Insertion.{cell_taken_at}
 use Rattle.facts.proofs.insertion.read_row.Given as goal
 
 abbrev pub invariant-loop-y : goal.invariant-loop-y
 invariant-loop-y l =
-    (k : ℕ) → k < l.y → get_or l.row k 0 ≡ cell_taken_at l.table.n l.table.cells.now l.w l.v k
+    record {
+      size : length l.row ≡ most_variables;
+      taken : (k : ℕ) → k < l.y
+          → get_or l.row k 0 ≡ cell_taken_at l.table.n l.table.cells.now l.w l.v k;
+    }

@@ -1,7 +1,7 @@
 -- With each turn one more variable has its two facts.
 use Rattle.facts.specs.Additions.{Said, Among, Added}
 use Rattle.facts.specs.Growth.{state_of, IsSame}
-use Rattle.facts.proofs.insertion.Growth.insert_reflexive.Given as goal
+use Rattle.facts.proofs.growth.Growth.insert_reflexive.Given as goal
 
 abbrev pub invariant-loop-i : goal.invariant-loop-i
 invariant-loop-i l =
