@@ -4,13 +4,13 @@ use Rattle.fields.specs.Fields.{variable, feature}
 use Rattle.fields.specs.Limits.{most_variables, most_items}
 use Rattle.selections.specs.declared.listed.Selection.{Selection}
 
--- i[f]j in the list
-abbrev pub selecting : ℕ → ℕ → ℕ → Selection
-selecting i f j = record { subject = variable i; feature = feature f; child = variable j }
+-- i[f]j as one of the list
+abbrev pub selection_of : ℕ → ℕ → ℕ → Selection
+selection_of i f j = record { subject = variable i; feature = feature f; child = variable j }
 
--- one of the list, and what stands past its end
+-- one of the list
 abbrev pub selection_at : List Selection → ℕ → Selection
-selection_at list k = get_or list k (selecting 0 0 0)
+selection_at list k = get_or list k (selection_of 0 0 0)
 
 -- the subject of one of the list
 abbrev pub subject_at : List Selection → ℕ → ℕ

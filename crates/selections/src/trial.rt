@@ -1,5 +1,5 @@
 // A selection on trial: put at the free place behind a group, and taken out again.
-ghost use Rattle.std.specs.Prelude.{◌<◌, ◌×◌, ◌≡◌};
+ghost use Rattle.std.specs.Prelude.{◌<◌, ◌≡◌};
 ghost use Rattle.fields.specs.Limits.{most_variables};
 ghost use Rattle.selections.specs.Groups.{group_places};
 ghost use Rattle.selections.specs.Trial.{Room, Put, without};
@@ -21,7 +21,7 @@ impl Groups {
     {
         let at = self.groups[i].end;
         let kept = Kept {
-            at: at,
+            at,
             child: self.children[at],
         };
         self.children[at] = child;
