@@ -1,7 +1,7 @@
 -- Labels as kept: how they stand for the statements, and what they tell of other and of different labels.
 use borrow.Author.Tests.{not-true}
 use Prim.Native.Nat.{ℕ, ◌<◌, ◌≤◌}
-use lib.ListN.{length, get_or, replicate, length-set, length-replicate, get_or-replicate}
+use lib.ListN.{replicate, length-set, length-replicate, get_or-replicate}
 use lib.Seq.{get_or-set_same, get_or-set_other}
 use mathlib.Core.Bool.{Bool, true, false, not, true≢false, false≢true}
 use mathlib.Core.List.Memᴰ

@@ -1,6 +1,6 @@
 // How many different labels are stated: where there are fewer than two, nothing can clash.
 ghost use Rattle.std.specs.Prelude.{◌≡◌};
-ghost use Rattle.labels.specs.Spreads.{has_any, is_only, has_other, differ, with_labels, can_clash};
+ghost use Rattle.labels.specs.Spreads.{has_any, is_several, is_only, has_other, differ, with_labels, can_clash};
 
 use fields::Label;
 use items::Statement;
@@ -19,11 +19,14 @@ impl Spread {
     pub fn has_any(self) -> bool
         ensures { result ≡ has_any self }
     {
-        match self {
-            Spread::Nothing => false,
-            Spread::One(_) => true,
-            Spread::Several => true,
-        }
+        !matches!(self, Spread::Nothing)
+    }
+
+    // Whether there are labels that differ.
+    pub fn is_several(self) -> bool
+        ensures { result ≡ is_several self }
+    {
+        matches!(self, Spread::Several)
     }
 
     // Whether a is the one label.
@@ -70,7 +73,7 @@ impl Spread {
             Spread::Nothing => other,
             Spread::One(a) => match other {
                 Spread::Nothing => self,
-                Spread::One(b) => { if a == b { self } else { Spread::Several } }
+                Spread::One(b) => if a == b { self } else { Spread::Several },
                 Spread::Several => Spread::Several,
             },
             Spread::Several => Spread::Several,
@@ -83,10 +86,7 @@ impl Spread {
     {
         match q {
             Statement::Labelling(_, b) => self.has_other(b),
-            _ => match self {
-                Spread::Several => true,
-                _ => false,
-            },
+            _ => self.is_several(),
         }
     }
 }
