@@ -55,8 +55,8 @@ counted test (suc n) =
     let one : ℕ → ℕ = λ k. cond (test k) 1 0 in
     let last : n + 1 ≡ suc n = omega arith in
     let more : count_by test (range_with_len 0 (n + 1)) ≡ count_by test (range_with_len 0 n) + cond (test n) 1 0 =
-        sym (sum-map one (range_with_len 0 (n + 1))) ∙ sum_by-map-range_with_len_more (λ x. x) one 0 n n (omega arith)
-        ∙ ap (λ k. k + one n) (sum-map one (range_with_len 0 n)) in
+    sym (sum-map one (range_with_len 0 (n + 1))) ∙ sum_by-map-range_with_len_more (λ x. x) one 0 n n (omega arith)
+    ∙ ap (λ k. k + one n) (sum-map one (range_with_len 0 n)) in
     let here = rw last at more in
     omega (arith, here, counted test n, picked (test n))
 

@@ -3,8 +3,7 @@ use Prim.Native.Nat.{ℕ, ◌<◌}
 use lib.ListN.{length, get_or}
 use mathlib.Core.Bool.{Bool, true, false, ◌&&◌, false≢true}
 use mathlib.Core.List.{List}
-use mathlib.Core.Path.{◌≡◌, refl, sym, ap, subst, ◌∙◌}
-use native.Mathlib.Omega.{arith}
+use mathlib.Core.Path.{◌≡◌, refl, sym, ap, ◌∙◌}
 use Rattle.std.specs.Cmp.Derive.{both_true}
 use Rattle.std.specs.List.{list_any, range_with_len}
 use Rattle.std.proofs.lemmas.List.{get_or_default}
@@ -15,17 +14,16 @@ use Rattle.fields.specs.declared.numbers.Variable.{Variable}
 use Rattle.fields.specs.Tests.{same}
 use Rattle.fields.proofs.Choice.{is_same, same_true}
 use Rattle.items.specs.declared.items.Statement.{Statement}
-use Rattle.rules.specs.Connectives.{◌and◌}
-use Rattle.rules.specs.Stated.{selection, labelling, Stated, any_below}
+use Rattle.rules.specs.Stated.{selection, Stated}
 use Rattle.rules.specs.Facts.{ordered, compatible, Relation}
 use Rattle.rules.specs.Tables.{facts}
 use Rattle.rules.specs.Support.{under_child, over_child, under_label, supported}
-use Rattle.rules.proofs.Logic.{both, first_of_and, second_of_and, same_tests}
+use Rattle.rules.proofs.Logic.{same_tests}
 use Rattle.rules.proofs.Some.{below_by, below_one}
 use Rattle.rules.proofs.Tables.{fact_row}
 use Rattle.rules.proofs.Supported.{under_by, over_by, under_of, over_of, label_by, label_under}
 use Rattle.selections.specs.declared.listed.Selection.{Selection}
-use Rattle.selections.specs.Listed.{selecting, selection_at, Selections, Listed}
+use Rattle.selections.specs.Listed.{selection_of, selection_at, Selections, Listed}
 use Rattle.selections.specs.Stands.{SelectionsStand}
 use Rattle.labels.specs.declared.spread.Spread.{Spread}
 use Rattle.labels.specs.Spreads.{spread_at, is_only}
@@ -48,7 +46,7 @@ second_passes false b p = absurd (false≢true p)
 pub lawful_at : {n : ℕ} {list : List Selection} → Selections n list → (s : Selection) (k : ℕ) → k < length list
     → s ≡ get_or list k s → IsSelection n s
 lawful_at {n} {list} lawful s k h e =
-    let here = e ∙ get_or_default list k s (selecting 0 0 0) h in
+    let here = e ∙ get_or_default list k s (selection_of 0 0 0) h in
     rw here (record { subject = lawful.subject_below k h; child = lawful.child_below k h })
 
 module _ {n : ℕ} {st : List Statement} {list : List Selection} (lawful : Selections n list)
@@ -63,28 +61,28 @@ module _ {n : ℕ} {st : List Statement} {list : List Selection} (lawful : Selec
   pub under_sought : list_any (is_under r i f j) list ≡ under_child st r i f j
   under_sought =
       same_tests _ _
-      (λ p. passing_at (is_under r i f j) list (selecting 0 0 0) p λ k h q.
+      (λ p. passing_at (is_under r i f j) list (selection_of 0 0 0) p λ k h q.
       let s = selection_at list k in
       let rest = second_passes (same s.feature.0 f) _ q in
       under_by r (stated_at k h (first_passes _ _ q)) (first_passes (r ordered s.subject.0 i) _ rest)
       (second_passes (r ordered s.subject.0 i) _ rest))
       (λ p. under_of st r i f j p λ k m s a b.
       let l = stand.listed k f m s in
-      list_any_at (is_under r i f j) list l.at (selecting 0 0 0) l.in_list
+      list_any_at (is_under r i f j) list l.at (selection_of 0 0 0) l.in_list
       (both_true (is_same _ f l.feature)
       (both_true (ap (λ x. r ordered x i) l.subject ∙ a) (ap (λ x. r ordered j x) l.child ∙ b))))
 
   pub over_sought : list_any (is_over r i f j) list ≡ over_child st r i f j
   over_sought =
       same_tests _ _
-      (λ p. passing_at (is_over r i f j) list (selecting 0 0 0) p λ k h q.
+      (λ p. passing_at (is_over r i f j) list (selection_of 0 0 0) p λ k h q.
       let s = selection_at list k in
       let rest = second_passes (same s.feature.0 f) _ q in
       over_by r (stated_at k h (first_passes _ _ q)) (first_passes (r ordered i s.subject.0) _ rest)
       (second_passes (r ordered i s.subject.0) _ rest))
       (λ p. over_of st r i f j p λ k m s a b.
       let l = stand.listed k f m s in
-      list_any_at (is_over r i f j) list l.at (selecting 0 0 0) l.in_list
+      list_any_at (is_over r i f j) list l.at (selection_of 0 0 0) l.in_list
       (both_true (is_same _ f l.feature)
       (both_true (ap (λ x. r ordered i x) l.subject ∙ a) (ap (λ x. r ordered x j) l.child ∙ b))))
 

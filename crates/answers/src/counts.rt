@@ -13,7 +13,9 @@ fn count_row(table: &Table<'_>, alike: bool, i: usize) -> usize
     requires { Lent table.now.n table.now.cells.now × (i < table.now.n) }
     ensures { RowCount table.now.n table.now.cells.now (kind_of alike) i result }
 {
-    (0..table.n).filter(|j| has_fact(table, alike, i, *j)).count()
+    (0..table.n)
+        .filter(|j| has_fact(table, alike, i, *j))
+        .count()
 }
 
 // The facts of the kind in all rows.

@@ -44,7 +44,8 @@ fn has_under(table: &Table<'_>, list: &[Selection], i: usize, f: Feature, j: usi
     requires selections { Selections table.now.n list.now }
     ensures { result ≡ list_any (is_under (facts table.now.n table.now.cells.now) i f.0 j) list.now }
 {
-    list.iter().any(|selection| is_under(table, selection, i, f, j))
+    list.iter()
+        .any(|selection| is_under(table, selection, i, f, j))
 }
 
 // Whether some selection of the list is so over.
@@ -53,7 +54,8 @@ fn has_over(table: &Table<'_>, list: &[Selection], i: usize, f: Feature, j: usiz
     requires selections { Selections table.now.n list.now }
     ensures { result ≡ list_any (is_over (facts table.now.n table.now.cells.now) i f.0 j) list.now }
 {
-    list.iter().any(|selection| is_over(table, selection, i, f, j))
+    list.iter()
+        .any(|selection| is_over(table, selection, i, f, j))
 }
 
 // Whether some k ≤ i has the label a.
