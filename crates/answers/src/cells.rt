@@ -4,13 +4,12 @@ ghost use Rattle.rules.specs.Tables.{facts};
 ghost use Rattle.table.specs.Cells.{Cell};
 
 use rules::Kind;
-use table::{look, says};
+use table::{Table, says};
 
-// Whether i and j have a fact of the kind.
-#[tactic(auto, using(rules::proofs::Tables::fact_said))]
-pub fn has_fact(t: &[u8], n: usize, kind: Kind, i: usize, j: usize) -> bool
-    requires { Cell n t.now i j }
-    ensures { result ≡ facts n t.now kind i j }
+// Whether a fact of the kind holds of i and j.
+pub fn has_fact(table: &Table<'_>, kind: Kind, i: usize, j: usize) -> bool
+    requires { Cell table.now.n table.now.cells.now i j }
+    ensures { result ≡ facts table.now.n table.now.cells.now kind i j }
 {
-    says(kind, look(t, n, i, j))
+    says(kind, table.look(i, j))
 }

@@ -1,36 +1,25 @@
 -- Each kind of question by its own search.
 use Rattle.std.proofs.Common.{sym, ◌∙◌}
-use Rattle.rules.specs.Support.{supported}
-use Rattle.answers.proofs.Shown.{under_first, not_under}
+use Rattle.answers.proofs.Shown.{by_ordering, by_compatibility, by_both, by_none_under, by_label}
 use Rattle.answers.proofs.support.supports.Goals as goal
 
 pub returns-in-Ordering : goal.returns-in-Ordering
-unfolding supported
-returns-in-Ordering c = record { told = λ st selections labels. rw c.in-Ordering.is c.has_fact.ensures }
+returns-in-Ordering c = by_ordering c.index.ensures c.index-in-Ordering.ensures c.in-Ordering.is c.has_fact.ensures
 
 pub returns-in-Compatibility : goal.returns-in-Compatibility
-unfolding supported
 returns-in-Compatibility c =
-    record { told = λ st selections labels. rw c.in-Compatibility.is c.has_fact-in-Compatibility.ensures }
+    by_compatibility c.index-in-Compatibility.ensures c.index-in-Compatibility-2.ensures c.in-Compatibility.is
+    c.has_fact-in-Compatibility.ensures
 
-pub returns-then-shows_child : goal.returns-then-shows_child
-returns-then-shows_child c =
-    record {
-      told = λ st selections labels.
-          rw c.in-Selection.is (under_first st _ _ _ _
-          (sym (c.shows_child.ensures.told st selections) ∙ c.if-shows_child.true)
-          (c.shows_child-then-shows_child.ensures.told st selections));
-    }
+pub returns-then-has_under : goal.returns-then-has_under
+returns-then-has_under c =
+    by_both c.index-subject.ensures c.index-child.ensures c.requires.selections c.in-Selection.is
+    (sym c.has_under.ensures ∙ c.if-has_under.true) c.has_over.ensures
 
-pub returns-else-shows_child : goal.returns-else-shows_child
-returns-else-shows_child c =
-    record {
-      told = λ st selections labels.
-          rw c.in-Selection.is (not_under st _ _ _ _
-          (sym (c.shows_child.ensures.told st selections) ∙ c.if-shows_child.false));
-    }
+pub returns-else-has_under : goal.returns-else-has_under
+returns-else-has_under c =
+    by_none_under c.index-subject.ensures c.index-child.ensures c.requires.selections c.in-Selection.is
+    c.has_under.ensures c.if-has_under.false
 
 pub returns-in-Labelling : goal.returns-in-Labelling
-unfolding supported
-returns-in-Labelling c =
-    record { told = λ st selections labels. rw c.in-Labelling.is (c.shows_label.ensures.told st labels) }
+returns-in-Labelling c = by_label c.index-in-Labelling.ensures c.in-Labelling.is c.has_label.ensures
