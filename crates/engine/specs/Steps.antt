@@ -1,7 +1,6 @@
 -- The steps of a check of an accepted sheet, on buffers of exactly the size in use.
+use Rattle.sheet.specs.declared.whole.Accepted.{Accepted}
 use Rattle.std.specs.Prelude.{ℕ, length, replicate, List, map, ◌≡◌}
-use Rattle.fields.specs.declared.numbers.Cursor.{Cursor}
-use Rattle.headers.specs.declared.headers.Header.{Header}
 use Rattle.headers.specs.Headers.{size_for, table_size}
 use Rattle.sheet.specs.Sheets.{Sheet}
 use Rattle.rules.specs.declared.clashes.Clash.{Clash}
@@ -19,21 +18,21 @@ use Rattle.outcomes.specs.declared.outcomes.Outcome.{Outcome}
 use Rattle.promise.specs.Checks.{sheet_outcome, where_consistent}
 
 -- an accepted sheet, two tables of its size, and as many reply bytes as it has questions
-pub record Accepting (s : List ℕ) (h : Header) (asked : Cursor) (facts work replies : List ℕ) : Type 0 where
-  pub questions : Asked s h asked replies
-  pub facts_size : length facts ≡ table_size h
-  pub work_size : length work ≡ table_size h
+pub record Accepting (s : List ℕ) (a : Accepted) (facts work replies : List ℕ) : Type 0 where
+  pub questions : Asked s a replies
+  pub facts_size : length facts ≡ table_size a.header
+  pub work_size : length work ≡ table_size a.header
 
 -- a closed table and the verdict on it, what it was made by, and room for a copy and the replies
-pub record Answering (verdict : Verdict) (s : List ℕ) (h : Header) (asked : Cursor)
+pub record Answering (verdict : Verdict) (s : List ℕ) (a : Accepted)
     (closed work subjects features children : List ℕ)
     (starts ends group_features group_children counts labels queue replies : List ℕ) : Type 0 where
-  pub questions : Asked s h asked replies
+  pub questions : Asked s a replies
   pub same_size : length closed ≡ length work
-  pub selections : Selections h.variables subjects features children
-  pub trying : Trying h.variables closed queue starts ends group_features group_children
-  pub no_clash : verdict ≡ Verdict.Consistent → ClashTold h.variables closed counts labels Clash.Nowhere
-  pub single : verdict ≡ Verdict.Consistent → SingleLabels h.variables counts
+  pub selections : Selections a.header.variables subjects features children
+  pub trying : Trying a.header.variables closed queue starts ends group_features group_children
+  pub no_clash : verdict ≡ Verdict.Consistent → ClashTold a.header.variables closed counts labels Clash.Nowhere
+  pub single : verdict ≡ Verdict.Consistent → SingleLabels a.header.variables counts
 
 -- the outcome of a sheet, its table, and where nothing clashes a cleared second table and the replies
 pub record Filled (s : Sheet) (work replies facts' work' replies' : List ℕ) (r : Outcome) : Type 0 where

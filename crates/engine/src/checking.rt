@@ -17,7 +17,7 @@ use outcomes::{Outcome, judge, outcome_of};
 use replies::reply_all;
 use rules::{Verdict, verdict_of};
 use selections::PLACES;
-use sheet::{Cursor, Header, Refusal, SheetRead};
+use sheet::{Accepted, Refusal};
 use statements::{PAIRS, SELECTIONS, gather};
 use table::{ROOM, clear, copy};
 
@@ -35,8 +35,7 @@ fn refused(refusal: Refusal) -> Outcome
 fn answer(
     verdict: Verdict,
     sheet: &[u8],
-    header: Header,
-    asked: Cursor,
+    accepted: Accepted,
     closed: &[u8],
     work: &mut [u8],
     subjects: &[u8],
@@ -51,10 +50,10 @@ fn answer(
     queue: &mut [u16; ROOM],
     replies: &mut [u8],
 )
-    requires answering { Answering verdict sheet.now header asked closed.now work.old subjects.now features.now
+    requires answering { Answering verdict sheet.now accepted closed.now work.old subjects.now features.now
         children.now starts.now ends.old group_features.old group_children.old counts.now labels.now queue.old
         replies.old }
-    requires held { Held header.variables closed.now subjects.now features.now children.now starts.now ends.old
+    requires held { Held accepted.header.variables closed.now subjects.now features.now children.now starts.now ends.old
         group_features.old group_children.old counts.now labels.now (sheet_of sheet.now).stated }
     ensures cleared { work.new ≡ where_consistent verdict (replicate (length work.old) 0) work.old }
     ensures replied { replies.new
@@ -63,12 +62,11 @@ fn answer(
     match verdict {
         Verdict::Clash(_, _) => (),
         Verdict::Consistent => {
-            let spread = spread_of(header.variables as usize, counts, labels);
+            let spread = spread_of(accepted.header.variables as usize, counts, labels);
             copy(closed, work);
             reply_all(
                 sheet,
-                header,
-                asked,
+                accepted,
                 closed,
                 work,
                 spread,
@@ -92,8 +90,7 @@ fn answer(
 // The check of an accepted sheet whose statements stand in lists.
 fn check_lists(
     sheet: &[u8],
-    header: Header,
-    asked: Cursor,
+    accepted: Accepted,
     cells: &[u8],
     lefts: &[u8],
     rights: &[u8],
@@ -106,12 +103,12 @@ fn check_lists(
     work: &mut [u8],
     replies: &mut [u8],
 ) -> Outcome
-    requires accepting { Accepting sheet.now header asked facts.old work.old replies.old }
-    requires in_lists { InLists header.variables (sheet_of sheet.now).stated cells.now lefts.now rights.now
+    requires accepting { Accepting sheet.now accepted facts.old work.old replies.old }
+    requires in_lists { InLists accepted.header.variables (sheet_of sheet.now).stated cells.now lefts.now rights.now
         subjects.now features.now children.now counts.now labels.now }
     ensures { Filled (sheet_of sheet.now) work.old replies.old facts.new work.new replies.new result }
 {
-    let n = header.variables as usize;
+    let n = accepted.header.variables as usize;
     let mut starts = [0usize; MOST_VARIABLES];
     let mut ends = [0usize; MOST_VARIABLES];
     let mut group_features = [0u16; PLACES];
@@ -136,8 +133,7 @@ fn check_lists(
     answer(
         verdict,
         sheet,
-        header,
-        asked,
+        accepted,
         facts,
         work,
         subjects,
@@ -158,13 +154,12 @@ fn check_lists(
 // The check of an accepted sheet, on buffers of exactly the size in use.
 fn check_accepted(
     sheet: &[u8],
-    header: Header,
-    asked: Cursor,
+    accepted: Accepted,
     facts: &mut [u8],
     work: &mut [u8],
     replies: &mut [u8],
 ) -> Outcome
-    requires { Accepting sheet.now header asked facts.old work.old replies.old }
+    requires { Accepting sheet.now accepted facts.old work.old replies.old }
     ensures { Filled (sheet_of sheet.now) work.old replies.old facts.new work.new replies.new result }
 {
     let mut cells = [0u8; PAIRS];
@@ -177,7 +172,7 @@ fn check_accepted(
     let mut labels = [0u16; MOST_VARIABLES];
     let sizes = gather(
         sheet,
-        header,
+        accepted,
         &mut cells,
         &mut lefts,
         &mut rights,
@@ -191,8 +186,7 @@ fn check_accepted(
     let s = sizes.selections;
     check_lists(
         sheet,
-        header,
-        asked,
+        accepted,
         &cells[..p],
         &lefts[..p],
         &rights[..p],
@@ -208,19 +202,18 @@ fn check_accepted(
 }
 
 // The check of what is judged first: refused, or accepted.
-#[tactic(auto, using(crate::proofs::Whole::parts_fit))]
+#[tactic(auto, using(outcomes::proofs::Judging::refused_soon))]
 fn check_judged(sheet: &[u8], facts: &mut [u8], work: &mut [u8], replies: &mut [u8]) -> Outcome
     ensures { Checked sheet.now facts.old work.old replies.old facts.new work.new replies.new result }
 {
     match judge(sheet, facts.len(), work.len(), replies.len()) {
-        SheetRead::Refused(refusal) => refused(refusal),
-        SheetRead::Accepted(header, asked) => {
-            let size = header.table_size();
-            let count = header.reply_count();
+        Err(refusal) => refused(refusal),
+        Ok(accepted) => {
+            let size = accepted.header.table_size();
+            let count = accepted.header.reply_count();
             check_accepted(
                 sheet,
-                header,
-                asked,
+                accepted,
                 &mut facts[..size],
                 &mut work[..size],
                 &mut replies[..count],

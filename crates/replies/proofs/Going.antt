@@ -3,9 +3,10 @@ use Prim.Native.Nat.{ℕ, ◌+◌, ◌-◌, ◌<◌}
 use lib.ListN.{set}
 use mathlib.Core.List.{List}
 use mathlib.Core.Path.{◌≡◌, refl, sym, subst, ◌∙◌}
+use Rattle.std.specs.Prelude.{Ok}
+use Rattle.fields.specs.declared.fields.Field.{Field}
 use Rattle.fields.specs.declared.numbers.Cursor.{Cursor}
 use Rattle.items.specs.declared.items.Question.{Question}
-use Rattle.items.specs.declared.items.QuestionRead.{QuestionRead}
 use Rattle.items.specs.Questions.{Query, query_of}
 use Rattle.items.specs.Items.{question_at}
 use Rattle.sheet.specs.Sheets.{sheet, sheet_of}
@@ -61,14 +62,14 @@ module _ {s : List ℕ} {n : ℕ} {closed subjects features children starts : Li
         (told.told (sheet_of s).stated (sheet_of s).asked
         (rw (g.same_ends, g.same_features, g.same_children) g.held))
 
-    pub going_next : {t' ends' features' children' queue' : List ℕ} {q : Question} {next : Cursor} {r : Reply} {v : ℕ}
-        → 0 < left → question_at s n cursor ≡ QuestionRead.Asks q next
+    pub going_next : {t' ends' features' children' queue' : List ℕ} {q : Field Question} {r : Reply} {v : ℕ}
+        → 0 < left → question_at s n cursor ≡ Ok q
         → ReplyTold n (Held n closed subjects features children starts ends group_features group_children counts labels)
-        (query_of q) r
+        (query_of q.value) r
         → v ≡ reply_number r → t' ≡ closed
         → Restored ends group_features group_children ends' features' children' queue'
         → Going s n closed subjects features children starts ends₀ features₀ children₀ counts labels spread
-        t' ends' features' children' queue' (left - 1) next (k + 1) (set replies k v)
+        t' ends' features' children' queue' (left - 1) q.next (k + 1) (set replies k v)
     going_next {t'} {queue' = queue'} more read told number copied restored =
         record {
           answers = answers_next g.answers more read (from_sheet told) number;

@@ -1,11 +1,9 @@
 -- When questions can be replied to, and what the replies are.
-use Rattle.std.specs.Prelude.{ℕ, length, List, ◌≡◌}
-use Rattle.fields.specs.declared.numbers.Cursor.{Cursor}
-use Rattle.headers.specs.declared.headers.Header.{Header}
+use Rattle.std.specs.Prelude.{ℕ, length, List, ◌≡◌, Ok}
 use Rattle.headers.specs.Headers.{reply_count}
 use Rattle.items.specs.declared.items.Statement.{Statement}
 use Rattle.items.specs.Questions.{Query}
-use Rattle.sheet.specs.declared.whole.SheetRead.{SheetRead}
+use Rattle.sheet.specs.declared.whole.Accepted.{Accepted}
 use Rattle.sheet.specs.Sheets.{sheet, read_sheet}
 use Rattle.rules.specs.declared.clashes.Clash.{Clash}
 use Rattle.rules.specs.declared.replies.Reply.{Reply}
@@ -36,6 +34,6 @@ pub record ReplyTold (n : ℕ) (Some : List Statement → Type 0) (q : Query) (r
   pub told : (st : List Statement) (asked : List Query) → Some st → r ≡ reply_to (sheet n st asked) q
 
 -- an accepted sheet, and as many reply bytes as it has questions
-pub record Asked (s : List ℕ) (h : Header) (asked : Cursor) (replies : List ℕ) : Type 0 where
-  pub accepted : read_sheet s ≡ SheetRead.Accepted h asked
-  pub room : length replies ≡ reply_count h
+pub record Asked (s : List ℕ) (a : Accepted) (replies : List ℕ) : Type 0 where
+  pub accepted : read_sheet s ≡ Ok a
+  pub room : length replies ≡ reply_count a.header
