@@ -91,7 +91,10 @@ impl Lists {
         let i = x.subject;
         self.put_if(has_bit(1, x.map), Statement::Ordering(i, x.target));
         self.put_if(has_bit(2, x.map), Statement::Compatibility(i, x.partner));
-        self.put_if(has_bit(4, x.map), Statement::Selection(i, x.feature, x.child));
+        self.put_if(
+            has_bit(4, x.map),
+            Statement::Selection(i, x.feature, x.child),
+        );
         self.put_if(has_bit(8, x.map), Statement::Labelling(i, x.label));
     }
 }
