@@ -3,7 +3,7 @@ ghost use Rattle.std.specs.Prelude.{◌<◌, ◌≤◌, replicate, ◌≡◌};
 ghost use Rattle.fields.specs.Limits.{most_variables};
 ghost use Rattle.labels.specs.declared.spread.Spread.{Spread};
 ghost use Rattle.labels.specs.Labels.{spreads_with, OtherTold, DifferTold};
-ghost use Rattle.labels.specs.Spreads.{spread_below};
+ghost use Rattle.labels.specs.Spreads.{spread_at, has_other, differ, spread_below};
 
 use crate::spread::Spread;
 use fields::{Label, MOST_VARIABLES};
@@ -37,7 +37,8 @@ impl Labels {
     #[tactic(auto, using(crate::proofs::Kept::by_other))]
     pub fn has_other(&self, j: usize, a: Label) -> bool
         requires { j < most_variables }
-        ensures { OtherTold self.now.spreads j a.0 result }
+        ensures value { result ≡ has_other (spread_at self.now.spreads j) a.0 }
+        ensures told { OtherTold self.now.spreads j a.0 result }
     {
         self.spreads[j].has_other(a)
     }
@@ -46,7 +47,8 @@ impl Labels {
     #[tactic(auto, using(crate::proofs::Kept::by_differ))]
     pub fn differ(&self, i: usize, j: usize) -> bool
         requires { (i < most_variables) × (j < most_variables) }
-        ensures { DifferTold self.now.spreads i j result }
+        ensures value { result ≡ differ (spread_at self.now.spreads i) (spread_at self.now.spreads j) }
+        ensures told { DifferTold self.now.spreads i j result }
     {
         self.spreads[i].differs(self.spreads[j])
     }
