@@ -181,11 +181,13 @@ module _ (x : Item) where
   record_put p q r s = put_both p (put_both q (put_both r s))
 
 -- one statement of a record is to be put
-pub putting_if : {a : Lists} (q : Statement) {stands bit : Bool} → stands ≡ bit → AllName most_variables (stated_if bit q)
+pub putting_if : {a : Lists} (q : Statement) {stands bit : Bool} → stands ≡ bit
+    → AllName most_variables (stated_if bit q)
     → length a.pairs.items + pairs_in q ≤ pairs_room → length a.selections.items + selections_in q ≤ most_items
     → Putting (stated_if stands q) (pairs_in q) (selections_in q) a
 putting_if q e named room room' = record { named = rw e named; pairs_fit = room; selections_room = room' }
 
 pub put_as : {a b : Lists} (q : Statement) {stands bit : Bool} → stands ≡ bit
-    → Put (stated_if stands q) (pairs_in q) (selections_in q) a b → Put (stated_if bit q) (pairs_in q) (selections_in q) a b
+    → Put (stated_if stands q) (pairs_in q) (selections_in q) a b
+    → Put (stated_if bit q) (pairs_in q) (selections_in q) a b
 put_as {a} {b} q e p = subst (λ s. Put (stated_if s q) (pairs_in q) (selections_in q) a b) e p
