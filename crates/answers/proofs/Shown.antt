@@ -68,7 +68,8 @@ module _ (st : List Statement) (r : Relation) (i f j : ℕ) where
 
 -- k has the label a and is below i
 unfoldable pub label_at : Relation → List ℕ → List ℕ → ℕ → ℕ → ℕ → Bool
-label_at r counts labels i a k = not (same (get_or counts k 0) 0) and (same (get_or labels k 0) a and r Kind.Ordered k i)
+label_at r counts labels i a k =
+    not (same (get_or counts k 0) 0) and (same (get_or labels k 0) a and r Kind.Ordered k i)
 
 pub label_sought : (n : ℕ) (t : List ℕ) {st : List Statement} {counts labels : List ℕ} → LabelsStand n st counts labels
     → SingleLabels n counts → (i a : ℕ)

@@ -109,7 +109,13 @@ pub fn supports(
 {
     match q {
         Statement::Ordering(i, j) => has_fact(t, n, Kind::Ordered, i.0 as usize, j.0 as usize),
-        Statement::Compatibility(i, j) => has_fact(t, n, Kind::Compatible, i.0 as usize, j.0 as usize),
+        Statement::Compatibility(i, j) => has_fact(
+            t,
+            n,
+            Kind::Compatible,
+            i.0 as usize,
+            j.0 as usize,
+        ),
         Statement::Selection(i, f, j) => {
             let x = i.0 as usize;
             let y = j.0 as usize;

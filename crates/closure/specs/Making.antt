@@ -28,7 +28,8 @@ pub record Made (n : ℕ) (cells lefts rights subjects features children : List 
   pub from : DerivedFrom n cells lefts rights starts ends group_features group_children t
 
 -- a closed table with a copy, the groups that it is closed by, its labels, and what is told of them
-pub record Answerable (n : ℕ) (closed t queue starts ends features children counts labels : List ℕ) (clash : Option Clash)
+pub record Answerable (n : ℕ) (closed t queue starts ends features children counts labels : List ℕ)
+    (clash : Option Clash)
     (spread : Spread) : Type 0 where
   pub copied : t ≡ closed
   pub trying : Trying n closed queue starts ends features children
