@@ -10,11 +10,11 @@ use selections::{Groups, Selection};
 // Groups the selections and fills the table with all facts that follow.
 #[tactic(auto, unfolding(headers::specs::Headers::size_for))]
 pub fn make(growth: &mut Growth, groups: &mut Groups, pairs: &[Pair], selections: &[Selection])
-    requires { Lawful growth.old.table.n pairs.now selections.now (length growth.old.table.cells.now) }
-    ensures made { Made growth.old.table.n pairs.now selections.now groups.new growth.new.table.cells.now }
+    requires { Lawful growth.old.n pairs.now selections.now (length growth.old.cells.now) }
+    ensures made { Made growth.old.n pairs.now selections.now groups.new growth.new.cells.now }
     ensures emptied { growth.new.queue.now.items ≡ [] }
     ensures same { IsSame growth.old growth.new }
 {
-    groups.fill(growth.table.n, selections);
+    groups.fill(growth.n, selections);
     derive(growth, pairs, groups);
 }

@@ -11,8 +11,8 @@ use selections::Groups;
 
 // Inserts what each stated pair says.
 fn insert_pairs(growth: &mut Growth, pairs: &[Pair])
-    requires { InsertingPairs growth.old.table.n (state_of growth.old) pairs.now }
-    ensures steps { Steps growth.old.table.n (Paired pairs.now) (state_of growth.old) (state_of growth.new) }
+    requires { InsertingPairs growth.old.n (state_of growth.old) pairs.now }
+    ensures steps { Steps growth.old.n (Paired pairs.now) (state_of growth.old) (state_of growth.new) }
     ensures same { IsSame growth.old growth.new }
 {
     for pair in pairs {
@@ -22,13 +22,13 @@ fn insert_pairs(growth: &mut Growth, pairs: &[Pair])
 
 // Fills the table with all facts that follow from the stated pairs and the selections.
 pub fn derive(growth: &mut Growth, pairs: &[Pair], groups: &Groups)
-    requires square { length growth.old.table.cells.now ≡ growth.old.table.n * growth.old.table.n }
-    requires lawful { Deriving growth.old.table.n pairs.now groups.now }
-    ensures derived_from { DerivedFrom growth.old.table.n pairs.now groups.now growth.new.table.cells.now }
+    requires square { length growth.old.cells.now ≡ growth.old.n * growth.old.n }
+    requires lawful { Deriving growth.old.n pairs.now groups.now }
+    ensures derived_from { DerivedFrom growth.old.n pairs.now groups.now growth.new.cells.now }
     ensures emptied { growth.new.queue.now.items ≡ [] }
     ensures same { IsSame growth.old growth.new }
 {
-    growth.table.clear();
+    growth.clear();
     growth.queue.clear();
     growth.insert_reflexive();
     insert_pairs(growth, pairs);

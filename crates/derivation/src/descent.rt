@@ -12,37 +12,37 @@ use facts::Growth;
 use fields::Feature;
 use selections::Groups;
 use std::ops::Range;
-use table::{Entry, Table, lacks};
+use table::{Entry, lacks};
 
 // A cell that says nothing.
 const NOTHING: u8 = 0;
 
 // Whether a place has the feature f, and w is not told yet of i and the child there.
 #[tactic(auto, unfolding(crate::specs::Descent::is_new, fields::specs::Tests::pick, fields::specs::Tests::same))]
-fn is_new(table: &Table, groups: &Groups, w: u8, f: Feature, i: usize, at: usize) -> bool
-    requires { Telling table.now.n table.now.cells.now groups.now i at }
-    ensures { result ≡ is_new table.now.n table.now.cells.now groups.now w f.0 i at }
+fn is_new(growth: &Growth, groups: &Groups, w: u8, f: Feature, i: usize, at: usize) -> bool
+    requires { Telling growth.now.n growth.now.cells.now groups.now i at }
+    ensures { result ≡ is_new growth.now.n growth.now.cells.now groups.now w f.0 i at }
 {
     let child = groups.children[at];
-    child.feature == f && lacks(table.look(i, child.variable.index()), w)
+    child.feature == f && lacks(growth.look(i, child.variable.index()), w)
 }
 
 // The first such place of these.
 fn seek(
-    table: &Table,
+    growth: &Growth,
     groups: &Groups,
     w: u8,
     f: Feature,
     i: usize,
     places: Range<usize>,
 ) -> Option<usize>
-    requires { Seeking table.now.n table.now.cells.now groups.now i places.start places.end }
+    requires { Seeking growth.now.n growth.now.cells.now groups.now i places.start places.end }
     ensures { MatchOption result
-        (NoneNew table.now.n table.now.cells.now groups.now w f.0 i places.start places.end)
-        (FirstNew table.now.n table.now.cells.now groups.now w f.0 i places.start places.end) }
+        (NoneNew growth.now.n growth.now.cells.now groups.now w f.0 i places.start places.end)
+        (FirstNew growth.now.n growth.now.cells.now groups.now w f.0 i places.start places.end) }
 {
     for at in places.start..places.end {
-        if is_new(table, groups, w, f, i, at) {
+        if is_new(growth, groups, w, f, i, at) {
             return Some(at);
         }
     }
@@ -51,13 +51,13 @@ fn seek(
 
 // Tells w of i and each child of v at f.
 fn tell_all(growth: &mut Growth, groups: &Groups, w: u8, f: Feature, i: usize, v: usize)
-    requires { Handing growth.old.table.n (state_of growth.old) groups.now w i v }
-    ensures steps { Steps growth.old.table.n (UnderAll groups.now w f.0 i v) (state_of growth.old) (state_of growth.new) }
+    requires { Handing growth.old.n (state_of growth.old) groups.now w i v }
+    ensures steps { Steps growth.old.n (UnderAll groups.now w f.0 i v) (state_of growth.old) (state_of growth.new) }
     ensures same { IsSame growth.old growth.new }
 {
     let group = groups.groups[v];
     let mut from = group.start;
-    while let Some(at) = seek(&growth.table, groups, w, f, i, from..group.end) {
+    while let Some(at) = seek(growth, groups, w, f, i, from..group.end) {
         growth.insert(w, i, groups.children[at].variable.index());
         from = at + 1;
     }
@@ -65,21 +65,21 @@ fn tell_all(growth: &mut Growth, groups: &Groups, w: u8, f: Feature, i: usize, v
 
 // The first of these rows whose child w is not told of yet with a child at the same feature, among the places.
 fn seek_row(
-    table: &Table,
+    growth: &Growth,
     groups: &Groups,
     w: u8,
     rows: Range<usize>,
     places: Range<usize>,
 ) -> Option<usize>
-    requires { SeekingRow table.now.n table.now.cells.now groups.now places.start places.end rows.start rows.end }
+    requires { SeekingRow growth.now.n growth.now.cells.now groups.now places.start places.end rows.start rows.end }
     ensures { MatchOption result
-        (NoRowNew table.now.n table.now.cells.now groups.now w places.start places.end rows.start rows.end)
-        (NextRow table.now.n table.now.cells.now groups.now w places.start places.end rows.start rows.end) }
+        (NoRowNew growth.now.n growth.now.cells.now groups.now w places.start places.end rows.start rows.end)
+        (NextRow growth.now.n growth.now.cells.now groups.now w places.start places.end rows.start rows.end) }
 {
     for at in rows.start..rows.end {
         let child = groups.children[at];
         if seek(
-            table,
+            growth,
             groups,
             w,
             child.feature,
@@ -96,15 +96,15 @@ fn seek_row(
 
 // Hands w down from u and v.
 fn hand_down(growth: &mut Growth, groups: &Groups, w: u8, u: usize, v: usize)
-    requires { Handing growth.old.table.n (state_of growth.old) groups.now w u v }
-    ensures steps { Steps growth.old.table.n (HandedDown groups.now w u v) (state_of growth.old) (state_of growth.new) }
+    requires { Handing growth.old.n (state_of growth.old) groups.now w u v }
+    ensures steps { Steps growth.old.n (HandedDown groups.now w u v) (state_of growth.old) (state_of growth.new) }
     ensures same { IsSame growth.old growth.new }
 {
     let rows = groups.groups[u];
     let others = groups.groups[v];
     let mut from = rows.start;
     while let Some(at) = seek_row(
-        &growth.table,
+        growth,
         groups,
         w,
         from..rows.end,
@@ -118,15 +118,15 @@ fn hand_down(growth: &mut Growth, groups: &Groups, w: u8, u: usize, v: usize)
 
 // Hands down what the table says of the two variables of an entry.
 fn visit(growth: &mut Growth, groups: &Groups, entry: Entry)
-    requires { Visiting growth.old.table.n (state_of growth.old) groups.now entry }
-    ensures steps { Steps growth.old.table.n
-        (Visited growth.old.table.n growth.old.table.cells.now groups.now entry)
+    requires { Visiting growth.old.n (state_of growth.old) groups.now entry }
+    ensures steps { Steps growth.old.n
+        (Visited growth.old.n growth.old.cells.now groups.now entry)
         (state_of growth.old) (state_of growth.new) }
     ensures same { IsSame growth.old growth.new }
 {
     let u = entry.first.index();
     let v = entry.second.index();
-    let w = growth.table.look(u, v);
+    let w = growth.look(u, v);
     if w != NOTHING {
         hand_down(growth, groups, w, u, v);
     }
@@ -134,8 +134,8 @@ fn visit(growth: &mut Growth, groups: &Groups, entry: Entry)
 
 // Visits the entries of the queue until there are no more.
 pub fn run(growth: &mut Growth, groups: &Groups)
-    requires { Starting growth.old.table.n (state_of growth.old) groups.now }
-    ensures settled { Settled growth.old.table.n (Grouped groups.now) (state_of growth.old) (state_of growth.new) }
+    requires { Starting growth.old.n (state_of growth.old) groups.now }
+    ensures settled { Settled growth.old.n (Grouped groups.now) (state_of growth.old) (state_of growth.new) }
     ensures same { IsSame growth.old growth.new }
 {
     let mut head = 0;

@@ -10,92 +10,92 @@ ghost use Rattle.facts.specs.Insertion.{mark_of, cell_taken_at, Columns, Rows, L
 use crate::growth::Growth;
 use fields::MOST_VARIABLES;
 use rules::Kind;
-use table::{Table, lacks, says};
-
-// Whether x is below u and lacks w at v.
-#[tactic(auto, using(crate::proofs::Inserting::marks))]
-fn mark(table: &Table, w: u8, u: usize, v: usize, x: usize) -> bool
-    requires below { Cell table.now.n table.now.cells.now x u }
-    requires lacking { Cell table.now.n table.now.cells.now x v }
-    ensures { result ≡ mark_of table.now.n table.now.cells.now w u v x }
-{
-    says(Kind::Ordered, table.look(x, u)) && lacks(table.look(x, v), w)
-}
-
-// Marks what is below u and lacks w at v.
-fn read_column(table: &Table, w: u8, u: usize, v: usize) -> [bool; MOST_VARIABLES]
-    requires { Looking table.now.n table.now.cells.now u v }
-    ensures { Columns table.now.n table.now.cells.now w u v result }
-{
-    let mut column = [false; MOST_VARIABLES];
-    for x in 0..table.n {
-        column[x] = mark(table, w, u, v, x);
-    }
-    column
-}
-
-// The cell at y that is taken by what is below a variable, once w holds of it and v.
-#[tactic(auto, unfolding(crate::specs::Insertion::cell_taken_at, fields::specs::Tests::pick))]
-fn taken(table: &Table, w: u8, v: usize, y: usize) -> u8
-    requires along { Cell table.now.n table.now.cells.now v y }
-    requires back { Cell table.now.n table.now.cells.now y v }
-    ensures { result ≡ cell_taken_at table.now.n table.now.cells.now w v y }
-{
-    if says(Kind::Ordered, w) {
-        table.look(v, y)
-    } else if says(Kind::Ordered, table.look(y, v)) {
-        2
-    } else {
-        0
-    }
-}
-
-// The row that is taken so.
-fn read_row(table: &Table, w: u8, v: usize) -> [u8; MOST_VARIABLES]
-    requires { Looking table.now.n table.now.cells.now v v }
-    ensures { Rows table.now.n table.now.cells.now w v result }
-{
-    let mut row = [0; MOST_VARIABLES];
-    for y in 0..table.n {
-        row[y] = taken(table, w, v, y);
-    }
-    row
-}
+use table::{lacks, says};
 
 impl Growth<'_> {
+    // Whether x is below u and lacks w at v.
+    #[tactic(auto, using(crate::proofs::Inserting::marks))]
+    fn mark(&self, w: u8, u: usize, v: usize, x: usize) -> bool
+        requires below { Cell self.now.n self.now.cells.now x u }
+        requires lacking { Cell self.now.n self.now.cells.now x v }
+        ensures { result ≡ mark_of self.now.n self.now.cells.now w u v x }
+    {
+        says(Kind::Ordered, self.look(x, u)) && lacks(self.look(x, v), w)
+    }
+
+    // Marks what is below u and lacks w at v.
+    fn read_column(&self, w: u8, u: usize, v: usize) -> [bool; MOST_VARIABLES]
+        requires { Looking self.now.n self.now.cells.now u v }
+        ensures { Columns self.now.n self.now.cells.now w u v result }
+    {
+        let mut column = [false; MOST_VARIABLES];
+        for x in 0..self.n {
+            column[x] = self.mark(w, u, v, x);
+        }
+        column
+    }
+
+    // The cell at y that is taken by what is below a variable, once w holds of it and v.
+    #[tactic(auto, unfolding(crate::specs::Insertion::cell_taken_at, fields::specs::Tests::pick))]
+    fn taken(&self, w: u8, v: usize, y: usize) -> u8
+        requires along { Cell self.now.n self.now.cells.now v y }
+        requires back { Cell self.now.n self.now.cells.now y v }
+        ensures { result ≡ cell_taken_at self.now.n self.now.cells.now w v y }
+    {
+        if says(Kind::Ordered, w) {
+            self.look(v, y)
+        } else if says(Kind::Ordered, self.look(y, v)) {
+            2
+        } else {
+            0
+        }
+    }
+
+    // The row that is taken so.
+    fn read_row(&self, w: u8, v: usize) -> [u8; MOST_VARIABLES]
+        requires { Looking self.now.n self.now.cells.now v v }
+        ensures { Rows self.now.n self.now.cells.now w v result }
+    {
+        let mut row = [0; MOST_VARIABLES];
+        for y in 0..self.n {
+            row[y] = self.taken(w, v, y);
+        }
+        row
+    }
+
     // Adds a new fact: what w says of u and v, and all that F1 and F3 then give.
     #[tactic(auto, using(crate::proofs::Inserting::row_cells))]
     fn insert_new(&mut self, w: u8, u: usize, v: usize)
-        requires inserting { Inserting self.old.table.n (state_of self.old) w u v }
+        requires inserting { Inserting self.old.n (state_of self.old) w u v }
         requires some { 0 < w }
-        ensures steps { Steps self.old.table.n (Said w u v) (state_of self.old) (state_of self.new) }
+        ensures steps { Steps self.old.n (Said w u v) (state_of self.old) (state_of self.new) }
         ensures same { IsSame self.old self.new }
     {
-        let column = read_column(&self.table, w, u, v);
-        let row = read_row(&self.table, w, v);
+        let column = self.read_column(w, u, v);
+        let row = self.read_row(w, v);
         self.take_rows(&column, &row);
     }
 
     // Adds what w says of u and v, with all that F1 and F3 then give, if it is not there already.
     #[tactic(auto, using(crate::proofs::Inserting::lacking))]
     pub fn insert(&mut self, w: u8, u: usize, v: usize)
-        requires { Inserting self.old.table.n (state_of self.old) w u v }
-        ensures steps { Steps self.old.table.n (Said w u v) (state_of self.old) (state_of self.new) }
+        requires { Inserting self.old.n (state_of self.old) w u v }
+        ensures steps { Steps self.old.n (Said w u v) (state_of self.old) (state_of self.new) }
         ensures same { IsSame self.old self.new }
     {
-        if lacks(self.table.look(u, v), w) {
+        if lacks(self.look(u, v), w) {
             self.insert_new(w, u, v);
         }
     }
 
     // Each variable is below itself and compatible with itself: F1.1 and F3.1.
     pub fn insert_reflexive(&mut self)
-        requires { Ready self.old.table.n (state_of self.old) }
-        ensures added { Added self.old.table.n (Among 0 self.old.table.n (λ i. Said 3 i i))
+        requires { Ready self.old.n (state_of self.old) }
+        ensures added { Added self.old.n (Among 0 self.old.n (λ i. Said 3 i i))
             (state_of self.old) (state_of self.new) }
         ensures same { IsSame self.old self.new }
     {
-        for i in 0..self.table.n {
+        for i in 0..self.n {
             self.take_cell(3, i, i);
         }
     }

@@ -1,9 +1,8 @@
--- One cell of a fact table, and a table with other cells.
+-- One cell of a fact table.
 use Rattle.std.specs.Prelude.{ℕ, ◌+◌, ◌*◌, ◌<◌, ◌≤◌, length, set, Bool, not, List, ◌≡◌}
 use Rattle.std.specs.Int.Bits.{bit_or}
 use Rattle.fields.specs.Limits.{most_variables}
 use Rattle.fields.specs.Tests.{same}
-use Rattle.table.specs.declared.table.Table.{Table}
 
 -- t is a table for n variables, and has a cell for i and j
 pub record Cell (n : ℕ) (t : List ℕ) (i j : ℕ) : Type 0 where
@@ -15,10 +14,6 @@ pub record Cell (n : ℕ) (t : List ℕ) (i j : ℕ) : Type 0 where
 -- the table with another cell for i and j
 unfoldable pub with_cell : ℕ → List ℕ → ℕ → ℕ → ℕ → List ℕ
 with_cell n t i j cell = set t (i * n + j) cell
-
--- the same lent place with other bytes in it
-abbrev pub with_cells : Table → List ℕ → Table
-with_cells table t = record table { cells = record table.cells { now = t } }
 
 -- w says something that the cell does not
 unfoldable pub is_lacking : ℕ → ℕ → Bool

@@ -7,4 +7,4 @@ mod table;
 
 pub use cells::{lacks, says};
 pub use queue::{Entry, Queue, ROOM, push};
-pub use table::Table;
+pub use table::{Table, store};

@@ -9,7 +9,7 @@ use Rattle.derivation.proofs.descent.run.Given as goal
 abbrev pub invariant-loop-head : goal.invariant-loop-head
 invariant-loop-head l =
     record {
-      half : Halfway l.fn.growth.table.n (Grouped l.groups) (state_of l.fn.growth) (state_of l.growth) l.head;
+      half : Halfway l.fn.growth.n (Grouped l.groups) (state_of l.fn.growth) (state_of l.growth) l.head;
       same : IsSame l.fn.growth l.growth;
       room : length l.growth.queue.now.items ≤ queue_room;
     }

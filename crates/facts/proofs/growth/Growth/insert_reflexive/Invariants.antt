@@ -7,6 +7,6 @@ abbrev pub invariant-loop-i : goal.invariant-loop-i
 invariant-loop-i l =
     record {
       added :
-          Added l.fn.self.table.n (Among 0 l.i (λ k. Said 3 k k)) (state_of l.fn.self) (state_of l.self);
+          Added l.fn.self.n (Among 0 l.i (λ k. Said 3 k k)) (state_of l.fn.self) (state_of l.self);
       same : IsSame l.fn.self l.self;
     }

@@ -7,7 +7,7 @@ use Rattle.facts.proofs.growth.Growth.restore_queued.Given as goal
 abbrev pub invariant-loop-k : goal.invariant-loop-k
 invariant-loop-k l =
     record {
-      ahead : Restoring l.fn.self.table.n l.other.cells.now (state_of l.self) l.k;
+      ahead : Restoring l.fn.self.n l.other.cells.now (state_of l.self) l.k;
       queue : l.self.queue.now ≡ l.fn.self.queue.now;
       same : IsSame l.fn.self l.self;
     }

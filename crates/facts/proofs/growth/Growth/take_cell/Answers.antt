@@ -1,5 +1,4 @@
 -- A cell that changes is stored and queued.
-use Rattle.std.proofs.Common.{ap}
 use Rattle.facts.proofs.Takes.{take_room, take_one}
 use Rattle.facts.proofs.growth.Growth.take_cell.Goals as goal
 
@@ -8,5 +7,4 @@ push-requires-clause-room c = take_room _ _ _ _ _ _ c.requires c.look-old.ensure
 
 pub returns-then-new-old-clause-added : goal.returns-then-new-old-clause-added
 returns-then-new-old-clause-added c =
-    take_one _ _ _ _ _ _ c.requires c.look-old.ensures c.if-new-old.true _ _ (ap (λ g. g.cells.now) c.store.ensures)
-    c.push.ensures
+    take_one _ _ _ _ _ _ c.requires c.look-old.ensures c.if-new-old.true _ _ c.store.ensures c.push.ensures

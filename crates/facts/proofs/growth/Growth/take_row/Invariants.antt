@@ -9,7 +9,7 @@ abbrev pub invariant-loop-y : goal.invariant-loop-y
 invariant-loop-y l =
     record {
       added :
-          Added l.fn.self.table.n (Among 0 l.y (λ k. Sides (get_or l.row k 0) l.x k)) (state_of l.fn.self)
+          Added l.fn.self.n (Among 0 l.y (λ k. Sides (get_or l.row k 0) l.x k)) (state_of l.fn.self)
           (state_of l.self);
       same : IsSame l.fn.self l.self;
     }

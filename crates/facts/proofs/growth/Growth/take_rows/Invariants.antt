@@ -9,7 +9,7 @@ abbrev pub invariant-loop-x : goal.invariant-loop-x
 invariant-loop-x l =
     record {
       added :
-          Added l.fn.self.table.n (Among 0 l.x (λ k. Marked (get_or l.column k false) l.fn.self.table.n l.row k))
+          Added l.fn.self.n (Among 0 l.x (λ k. Marked (get_or l.column k false) l.fn.self.n l.row k))
           (state_of l.fn.self) (state_of l.self);
       same : IsSame l.fn.self l.self;
     }
