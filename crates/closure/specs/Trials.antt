@@ -12,6 +12,7 @@ use Rattle.rules.specs.Clashes.{clashes_at, clashes}
 use Rattle.table.specs.declared.queue.Entry.{Entry}
 use Rattle.table.specs.Queue.{entry_at, Queued, IsEntry}
 use Rattle.facts.specs.Additions.{Facts, Framed}
+use Rattle.facts.specs.declared.growth.Growth.{Growth}
 use Rattle.facts.specs.Growth.{IsSame}
 use Rattle.selections.specs.declared.grouped.Groups.{Groups}
 use Rattle.selections.specs.Groups.{Grouped, AreGroups, Spare}
@@ -19,28 +20,13 @@ use Rattle.selections.specs.Stands.{Selected, SelectionsStand}
 use Rattle.labels.specs.declared.spread.Spread.{Spread}
 use Rattle.labels.specs.Labels.{LabelsStand}
 use Rattle.derivation.specs.Settled.{Descends}
-use Rattle.closure.specs.declared.trials.Trial.{Trial}
 
--- of how many variables a trial is, its table's bytes, and its queue's entries
-abbrev pub variables_in : Trial → ℕ
-variables_in x = x.growth.table.n
-
-abbrev pub table_in : Trial → List ℕ
-table_in x = x.growth.table.cells.now
-
-abbrev pub queue_in : Trial → List Entry
-queue_in x = x.growth.queue.now.items
-
--- the same table, queue and groups, with whatever facts and entries
-pub record IsKept (x x' : Trial) : Type 0 where
-  pub growth : IsSame x.growth x'.growth
-  pub groups : x'.groups ≡ x.groups
-
--- and with the facts and entries of before
-pub record Restored (x x' : Trial) : Type 0 where
-  pub kept : IsKept x x'
-  pub table : table_in x' ≡ table_in x
-  pub queue : queue_in x' ≡ queue_in x
+-- the same growth with the facts and entries of before, and the groups of before
+pub record Restored (g g' : Growth) (groups groups' : Groups) : Type 0 where
+  pub same : IsSame g g'
+  pub table : g'.cells.now ≡ g.cells.now
+  pub queue : g'.queue.now.items ≡ g.queue.now.items
+  pub grouped : groups' ≡ groups
 
 -- a closed table, and groups with free places
 pub record Trying (n : ℕ) (t : List ℕ) (groups : Groups) : Type 0 where
@@ -164,8 +150,8 @@ pub record Tried (n : ℕ) (Some : List Statement → Type 0) (q : Statement) (r
   pub answer : (st : List Statement) → Some st → r ≡ clashes (st ++ (q ∷ [])) n
 
 -- a question on trial, in a copy of the closed table with an empty queue
-pub record Asking (closed : List ℕ) (x : Trial) (q : Statement) : Type 0 where
-  pub copied : table_in x ≡ closed
-  pub empty : queue_in x ≡ []
-  pub trying : Trying (variables_in x) closed x.groups
-  pub names : Names (variables_in x) q
+pub record Asking (closed : List ℕ) (g : Growth) (groups : Groups) (q : Statement) : Type 0 where
+  pub copied : g.cells.now ≡ closed
+  pub empty : g.queue.now.items ≡ []
+  pub trying : Trying g.n closed groups
+  pub names : Names g.n q

@@ -7,4 +7,4 @@ mod trials;
 
 pub use closed::Closed;
 pub use making::make;
-pub use trials::Trial;
+pub use trials::trial;

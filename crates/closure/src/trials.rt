@@ -1,10 +1,10 @@
 // Trials: whether one statement more would clash.
 ghost use Rattle.std.specs.Prelude.{◌*◌, ◌≡◌};
 ghost use Rattle.facts.specs.Additions.{Said};
+ghost use Rattle.facts.specs.Growth.{IsSame};
 ghost use Rattle.selections.specs.Groups.{Grouped};
 ghost use Rattle.closure.specs.Making.{variables_of, table_of, spreads_of, IsTold};
-ghost use Rattle.closure.specs.Trials.{variables_in, table_in, queue_in, IsKept, Restored};
-ghost use Rattle.closure.specs.Trials.{TryingFact, TryingSelection, Tries, Queueing};
+ghost use Rattle.closure.specs.Trials.{TryingFact, TryingSelection, Tries, Restored, Queueing};
 ghost use Rattle.closure.specs.Trials.{SubjectQueued, Searching, EntryTold, Sought, QueueTold, Searched};
 ghost use Rattle.closure.specs.Trials.{WithOne, Nothing, Standing, Consistent, Tried, Asking};
 
@@ -16,161 +16,159 @@ use items::Statement;
 use labels::Labels;
 use rules::Kind;
 use selections::{Child, Groups};
-use table::{Entry, Table, push, says};
+use table::{Entry, push, says};
 
-// Room to try a statement in: a copy of the closed table with an empty queue, and the groups of the selections.
-#[derive(Drop)]
-pub struct Trial<'a> {
-    pub growth: Growth<'a>,
-    pub groups: Groups,
+// Adds to a closed table what w says of i and j, and all that follows.
+fn try_fact(growth: &mut Growth, groups: &Groups, w: u8, i: usize, j: usize)
+    requires { TryingFact growth.old.n growth.old.cells.now growth.old.queue.now.items groups.now w i j }
+    ensures tries { Tries growth.old.n (Grouped groups.now) (Said w i j)
+        growth.old.cells.now growth.new.cells.now growth.new.queue.now.items 0 }
+    ensures same { IsSame growth.old growth.new }
+{
+    growth.insert(w, i, j);
+    run(growth, groups);
+}
+
+// Queues each pair that i is in.
+fn queue_subject(growth: &mut Growth, i: usize)
+    requires { Queueing growth.old.n i growth.old.queue.now.items }
+    ensures queued { SubjectQueued growth.old.n i growth.old.n growth.new.queue.now.items }
+    ensures table { growth.new.cells.now ≡ growth.old.cells.now }
+    ensures same { IsSame growth.old growth.new }
+{
+    for x in 0..growth.n {
+        push(growth.queue, i, x);
+        push(growth.queue, x, i);
+    }
+}
+
+// Adds to a closed table all that follows with a child of i: the first 2 × n entries are the pairs of i.
+fn try_selection(growth: &mut Growth, groups: &mut Groups, i: usize, child: Child)
+    requires { TryingSelection growth.old.n growth.old.cells.now growth.old.queue.now.items groups.old i
+        child.variable.0 }
+    ensures tries { Tries growth.old.n
+        (WithOne (Grouped groups.old) i child.feature.0 child.variable.0)
+        Nothing growth.old.cells.now growth.new.cells.now growth.new.queue.now.items (2 * growth.old.n) }
+    ensures same { IsSame growth.old growth.new }
+    ensures grouped { groups.new ≡ groups.old }
+{
+    let kept = groups.put(i, child);
+    queue_subject(growth, i);
+    run(growth, groups);
+    groups.take_out(i, kept);
 }
 
 // Whether an entry's variables are compatible and have different labels.
-fn clashes_at(table: &Table, labels: &Labels, entry: Entry) -> bool
-    requires { Searching table.now.n table.now.cells.now entry }
-    ensures { EntryTold table.now.n table.now.cells.now labels.now.spreads entry result }
+fn clashes_at(growth: &Growth, labels: &Labels, entry: Entry) -> bool
+    requires { Searching growth.now.n growth.now.cells.now entry }
+    ensures { EntryTold growth.now.n growth.now.cells.now labels.now.spreads entry result }
 {
     let i = entry.first.index();
     let j = entry.second.index();
-    says(Kind::Compatible, table.look(i, j)) && labels.differ(i, j)
+    says(Kind::Compatible, growth.look(i, j)) && labels.differ(i, j)
 }
 
-impl Trial<'_> {
-    // Adds what w says of i and j, and all that follows.
-    fn try_fact(&mut self, w: u8, i: usize, j: usize)
-        requires { TryingFact (variables_in self.old) (table_in self.old) (queue_in self.old) self.old.groups w i j }
-        ensures tries { Tries (variables_in self.old) (Grouped self.old.groups) (Said w i j)
-            (table_in self.old) (table_in self.new) (queue_in self.new) 0 }
-        ensures kept { IsKept self.old self.new }
-    {
-        self.growth.insert(w, i, j);
-        run(&mut self.growth, &self.groups);
-    }
-
-    // Queues each pair that i is in.
-    fn queue_subject(&mut self, i: usize)
-        requires { Queueing (variables_in self.old) i (queue_in self.old) }
-        ensures queued { SubjectQueued (variables_in self.old) i (variables_in self.old) (queue_in self.new) }
-        ensures table { table_in self.new ≡ table_in self.old }
-        ensures kept { IsKept self.old self.new }
-    {
-        for x in 0..self.growth.table.n {
-            push(self.growth.queue, i, x);
-            push(self.growth.queue, x, i);
-        }
-    }
-
-    // Adds all that follows with a child of i: the first 2 × n entries are the pairs of i.
-    fn try_selection(&mut self, i: usize, child: Child)
-        requires { TryingSelection (variables_in self.old) (table_in self.old) (queue_in self.old) self.old.groups i
-            child.variable.0 }
-        ensures tries { Tries (variables_in self.old)
-            (WithOne (Grouped self.old.groups) i child.feature.0 child.variable.0)
-            Nothing (table_in self.old) (table_in self.new) (queue_in self.new) (2 * variables_in self.old) }
-        ensures kept { IsKept self.old self.new }
-    {
-        let kept = self.groups.put(i, child);
-        self.queue_subject(i);
-        run(&mut self.growth, &self.groups);
-        self.groups.take_out(i, kept);
-    }
-
-    // Whether an entry clashes, from one place on.
-    fn has_clash(&self, labels: &Labels, from: usize) -> bool
-        requires { Sought (variables_in self.now) (table_in self.now) (queue_in self.now) }
-        ensures { QueueTold (variables_in self.now) (table_in self.now) labels.now.spreads (queue_in self.now) from result }
-    {
-        for k in from..self.growth.queue.len() {
-            if clashes_at(&self.growth.table, labels, self.growth.queue[k]) {
-                return true;
-            }
-        }
-        false
-    }
-
-    // Whether a fact on trial clashes.
-    fn fact_clashes(&mut self, closed: &Closed, w: u8, i: usize, j: usize) -> bool
-        requires trying { TryingFact (variables_in self.old) (table_in self.old) (queue_in self.old) self.old.groups w i j }
-        requires sizes { variables_of closed.now ≡ variables_in self.old }
-        requires copied { table_in self.old ≡ table_of closed.now }
-        ensures searched { Searched (variables_in self.old) (Grouped self.old.groups) (Said w i j)
-            (table_of closed.now) (spreads_of closed.now) result }
-        ensures restored { Restored self.old self.new }
-    {
-        self.try_fact(w, i, j);
-        let found = self.has_clash(closed.labels, 0);
-        self.growth.restore(closed.table, 0);
-        found
-    }
-
-    // Whether a selection on trial clashes.
-    fn selection_clashes(&mut self, closed: &Closed, i: usize, child: Child) -> bool
-        requires trying { TryingSelection (variables_in self.old) (table_in self.old) (queue_in self.old) self.old.groups i
-            child.variable.0 }
-        requires sizes { variables_of closed.now ≡ variables_in self.old }
-        requires copied { table_in self.old ≡ table_of closed.now }
-        ensures searched { Searched (variables_in self.old)
-            (WithOne (Grouped self.old.groups) i child.feature.0 child.variable.0)
-            Nothing (table_of closed.now) (spreads_of closed.now) result }
-        ensures restored { Restored self.old self.new }
-    {
-        self.try_selection(i, child);
-        let from = 2 * self.growth.table.n;
-        let found = self.has_clash(closed.labels, from);
-        self.growth.restore(closed.table, from);
-        found
-    }
-
-    // Whether a statement on trial clashes with statements that do not clash.
-    fn statement_clashes(&mut self, closed: &Closed, q: Statement) -> bool
-        requires sizes { variables_of closed.now ≡ variables_in self.old }
-        requires asking { Asking (table_of closed.now) self.old q }
-        ensures tried { Tried (variables_in self.old)
-            (Consistent (variables_in self.old) (table_of closed.now) self.old.groups (spreads_of closed.now)) q result }
-        ensures restored { Restored self.old self.new }
-    {
-        match q {
-            Statement::Ordering(i, j) => self.fact_clashes(closed, 1, i.index(), j.index()),
-            Statement::Compatibility(i, j) => self.fact_clashes(closed, 2, i.index(), j.index()),
-            Statement::Selection(i, f, j) => self.selection_clashes(
-                closed,
-                i.index(),
-                Child {
-                    feature: f,
-                    variable: j,
-                },
-            ),
-            Statement::Labelling(i, a) => label_clashes(closed.table, closed.labels, i.index(), a),
-        }
-    }
-
-    // The same, tried only where two labels differ at all.
-    fn clashes_with_consistent(&mut self, closed: &Closed, q: Statement) -> bool
-        requires sizes { variables_of closed.now ≡ variables_in self.old }
-        requires asking { Asking (table_of closed.now) self.old q }
-        requires told { IsTold closed.now }
-        ensures tried { Tried (variables_in self.old)
-            (Consistent (variables_in self.old) (table_of closed.now) self.old.groups (spreads_of closed.now)) q result }
-        ensures restored { Restored self.old self.new }
-    {
-        if closed.spread.can_clash(q) {
-            return self.statement_clashes(closed, q);
-        }
-        false
-    }
-
-    // Whether the statements clash with q behind them.
-    pub fn clashes(&mut self, closed: &Closed, q: Statement) -> bool
-        requires sizes { variables_of closed.now ≡ variables_in self.old }
-        requires asking { Asking (table_of closed.now) self.old q }
-        requires told { IsTold closed.now }
-        ensures tried { Tried (variables_in self.old)
-            (Standing (variables_in self.old) (table_of closed.now) self.old.groups (spreads_of closed.now)) q result }
-        ensures restored { Restored self.old self.new }
-    {
-        if closed.clash.is_some() {
+// Whether such an entry is in the queue, from one place on.
+fn clash_queued(growth: &Growth, labels: &Labels, from: usize) -> bool
+    requires { Sought growth.now.n growth.now.cells.now growth.now.queue.now.items }
+    ensures { QueueTold growth.now.n growth.now.cells.now labels.now.spreads growth.now.queue.now.items from result }
+{
+    for k in from..growth.queue.len() {
+        if clashes_at(growth, labels, growth.queue[k]) {
             return true;
         }
-        self.clashes_with_consistent(closed, q)
     }
+    false
+}
+
+// Whether a fact on trial clashes, tried in a copy of the closed table.
+fn fact_clashes(closed: &Closed, growth: &mut Growth, groups: &Groups, w: u8, i: usize, j: usize) -> bool
+    requires trying { TryingFact growth.old.n growth.old.cells.now growth.old.queue.now.items groups.now w i j }
+    requires sizes { variables_of closed.now ≡ growth.old.n }
+    requires copied { growth.old.cells.now ≡ table_of closed.now }
+    ensures searched { Searched growth.old.n (Grouped groups.now) (Said w i j)
+        (table_of closed.now) (spreads_of closed.now) result }
+    ensures restored { Restored growth.old growth.new groups.now groups.now }
+{
+    try_fact(growth, groups, w, i, j);
+    let found = clash_queued(growth, closed.labels, 0);
+    growth.restore(closed.table, 0);
+    found
+}
+
+// Whether a selection on trial clashes, tried in a copy of the closed table.
+fn selection_clashes(
+    closed: &Closed,
+    growth: &mut Growth,
+    groups: &mut Groups,
+    i: usize,
+    child: Child,
+) -> bool
+    requires trying { TryingSelection growth.old.n growth.old.cells.now growth.old.queue.now.items groups.old i
+        child.variable.0 }
+    requires sizes { variables_of closed.now ≡ growth.old.n }
+    requires copied { growth.old.cells.now ≡ table_of closed.now }
+    ensures searched { Searched growth.old.n
+        (WithOne (Grouped groups.old) i child.feature.0 child.variable.0)
+        Nothing (table_of closed.now) (spreads_of closed.now) result }
+    ensures restored { Restored growth.old growth.new groups.old groups.new }
+{
+    try_selection(growth, groups, i, child);
+    let from = 2 * growth.n;
+    let found = clash_queued(growth, closed.labels, from);
+    growth.restore(closed.table, from);
+    found
+}
+
+// Whether a statement on trial clashes with statements that do not clash.
+fn try_statement(closed: &Closed, growth: &mut Growth, groups: &mut Groups, q: Statement) -> bool
+    requires sizes { variables_of closed.now ≡ growth.old.n }
+    requires asking { Asking (table_of closed.now) growth.old groups.old q }
+    ensures tried { Tried growth.old.n
+        (Consistent growth.old.n (table_of closed.now) groups.old (spreads_of closed.now)) q result }
+    ensures restored { Restored growth.old growth.new groups.old groups.new }
+{
+    match q {
+        Statement::Ordering(i, j) => fact_clashes(closed, growth, groups, 1, i.index(), j.index()),
+        Statement::Compatibility(i, j) => fact_clashes(closed, growth, groups, 2, i.index(), j.index()),
+        Statement::Selection(i, feature, variable) => {
+            selection_clashes(closed, growth, groups, i.index(), Child { feature, variable })
+        }
+        Statement::Labelling(i, a) => label_clashes(closed.table, closed.labels, i.index(), a),
+    }
+}
+
+// The same, tried only where two labels differ at all.
+fn try_where_labels_differ(
+    closed: &Closed,
+    growth: &mut Growth,
+    groups: &mut Groups,
+    q: Statement,
+) -> bool
+    requires sizes { variables_of closed.now ≡ growth.old.n }
+    requires asking { Asking (table_of closed.now) growth.old groups.old q }
+    requires told { IsTold closed.now }
+    ensures tried { Tried growth.old.n
+        (Consistent growth.old.n (table_of closed.now) groups.old (spreads_of closed.now)) q result }
+    ensures restored { Restored growth.old growth.new groups.old groups.new }
+{
+    if closed.spread.can_clash(q) {
+        return try_statement(closed, growth, groups, q);
+    }
+    false
+}
+
+// Whether closed statements clash with q behind them, tried in a copy of their table with an empty queue.
+pub fn trial(closed: &Closed, growth: &mut Growth, groups: &mut Groups, q: Statement) -> bool
+    requires sizes { variables_of closed.now ≡ growth.old.n }
+    requires asking { Asking (table_of closed.now) growth.old groups.old q }
+    requires told { IsTold closed.now }
+    ensures tried { Tried growth.old.n
+        (Standing growth.old.n (table_of closed.now) groups.old (spreads_of closed.now)) q result }
+    ensures restored { Restored growth.old growth.new groups.old groups.new }
+{
+    if closed.clash.is_some() {
+        return true;
+    }
+    try_where_labels_differ(closed, growth, groups, q)
 }

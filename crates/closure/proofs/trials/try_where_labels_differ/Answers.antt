@@ -1,6 +1,6 @@
 -- Where no two labels differ, nothing clashes.
 use Rattle.closure.proofs.Questions.{skip_where}
-use Rattle.closure.proofs.trials.Trial.clashes_with_consistent.Goals as goal
+use Rattle.closure.proofs.trials.try_where_labels_differ.Goals as goal
 
 pub returns-clause-tried : goal.returns-clause-tried
 returns-clause-tried c =

@@ -1,6 +1,6 @@
 -- From the closed table to the least closed one that has the fact.
 use Rattle.closure.proofs.Trying.{fact_run, fact_tried, starting_at, settled_to}
-use Rattle.closure.proofs.trials.Trial.try_fact.Goals as goal
+use Rattle.closure.proofs.trials.try_fact.Goals as goal
 
 pub run-requires : goal.run-requires
 run-requires c = starting_at c.insert.ensures.same.n (fact_run c.requires c.insert.ensures.steps)

@@ -1,7 +1,7 @@
 -- Each kind of question by its own trial.
 use Rattle.rules.specs.declared.kinds.Kind.{Kind}
 use Rattle.closure.proofs.Questions.{fact_told, selection_told, label_told}
-use Rattle.closure.proofs.trials.Trial.statement_clashes.Goals as goal
+use Rattle.closure.proofs.trials.try_statement.Goals as goal
 
 pub returns-in-Ordering-clause-tried : goal.returns-in-Ordering-clause-tried
 returns-in-Ordering-clause-tried c =
