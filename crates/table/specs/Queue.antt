@@ -14,7 +14,7 @@ queue_room = 2 * most_variables * most_variables + 2 * most_variables
 abbrev pub entry : ℕ → ℕ → Entry
 entry x y = record { first = variable x; second = variable y }
 
--- the entry at a place; behind the last there is none, and the word for none is that of 0 and 0
+-- the entry at a place, and what stands for one behind the last
 abbrev pub no_entry : Entry
 no_entry = entry 0 0
 
