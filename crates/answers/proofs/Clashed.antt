@@ -8,7 +8,8 @@ use Rattle.std.specs.Prelude.{None, Some}
 use Rattle.fields.proofs.Choice.{chosen, passed}
 use Rattle.items.specs.declared.items.Statement.{Statement}
 use Rattle.rules.specs.declared.clashes.Clash.{Clash}
-use Rattle.rules.specs.Facts.{compatible, Relation}
+use Rattle.rules.specs.declared.kinds.Kind.{Kind}
+use Rattle.rules.specs.Facts.{Relation}
 use Rattle.rules.specs.Tables.{facts}
 use Rattle.rules.specs.Clashes.{clashes_at, clash_between, clash_in_row, clash_in_rows}
 use Rattle.rules.proofs.Logic.{both}
@@ -92,7 +93,7 @@ module _ {n : ℕ} {t : List ℕ} {spreads : List Spread} where
         }
 
     module _ {j : ℕ} (rest : RowLeft n t spreads i j) (h : j < n) where
-      pub row_not_alike : facts n t compatible i j ≡ false → RowLeft n t spreads i (j + 1)
+      pub row_not_alike : facts n t Kind.Compatible i j ≡ false → RowLeft n t spreads i (j + 1)
       unfolding clashes_at
       row_not_alike p = row_on rest h λ st stand. fails_first _ p
 
@@ -101,7 +102,7 @@ module _ {n : ℕ} {t : List ℕ} {spreads : List Spread} where
       row_not_different g d = row_on rest h λ st stand. fails_second _ (sym (d.told n st stand g h))
 
       -- and one that has it
-      pub row_here : i < n → facts n t compatible i j ≡ true → DifferTold spreads i j true
+      pub row_here : i < n → facts n t Kind.Compatible i j ≡ true → DifferTold spreads i j true
           → RowTold n t spreads i (Some (clash_between i j))
       unfolding clashes_at
       row_here g p d =

@@ -9,7 +9,8 @@ use Rattle.items.specs.declared.items.Statement.{Statement}
 use Rattle.items.specs.Statements.{Names, AllName}
 use Rattle.rules.specs.Connectives.{◌and◌}
 use Rattle.rules.specs.Stated.{labelling, Stated, any_below}
-use Rattle.rules.specs.Facts.{Kind, ordered, compatible, Relation, fact, Closed}
+use Rattle.rules.specs.declared.kinds.Kind.{Kind}
+use Rattle.rules.specs.Facts.{Relation, fact, Closed}
 use Rattle.rules.specs.Tables.{facts}
 use Rattle.rules.specs.Derived.{derived, facts_of}
 use Rattle.rules.specs.Clashes.{labels_differ, clashes_at, clashes}
@@ -28,11 +29,11 @@ use Rattle.answers.proofs.Ranges.{any_in_range, same_below}
 
 -- j is alike to i and has a label other than a
 unfoldable pub meets : Relation → List Statement → ℕ → ℕ → ℕ → Bool
-meets r st i a j = r compatible i j and other_stated st j a
+meets r st i a j = r Kind.Compatible i j and other_stated st j a
 
 -- the same by the spreads of labels
 abbrev pub met_at : Relation → List Spread → ℕ → ℕ → ℕ → Bool
-met_at r spreads i a j = r compatible i j && has_other (spread_at spreads j) a
+met_at r spreads i a j = r Kind.Compatible i j && has_other (spread_at spreads j) a
 
 same_met : (a : Bool) {b c : Bool} → b ≡ c → a && b ≡ a and c
 unfolding ◌and◌
@@ -44,11 +45,11 @@ pub met_sought : {n : ℕ} (r : Relation) {st : List Statement} {spreads : List 
 unfolding meets
 met_sought {n} r {st} {spreads} stand i a =
     any_in_range (met_at r spreads i a) n
-    ∙ same_below n (met_at r spreads i a) _ λ j h. same_met (r compatible i j) (other_told (stand.at j h) a)
+    ∙ same_below n (met_at r spreads i a) _ λ j h. same_met (r Kind.Compatible i j) (other_told (stand.at j h) a)
 
 pub no_label : (kind : Kind) (i j : ℕ) → NoLabelling (fact kind i j)
-no_label ordered i j = tt
-no_label compatible i j = tt
+no_label Kind.Ordered i j = tt
+no_label Kind.Compatible i j = tt
 
 -- what is closed by more statements, labels aside, is closed by fewer
 pub fewer_closed : {n : ℕ} {st st' : List Statement} {R : Kind → ℕ → ℕ → Type 0}
@@ -83,7 +84,7 @@ module _ (n : ℕ) (st : List Statement) (names : AllName n st) (i a : ℕ) (h :
       (smallest n st _ (fewer_closed (λ x other s. still _ s) (derived_closed n list_with_label names_more)))
 
   -- where a pair clashes there is a clash
-  clash_at : (x y : ℕ) → x < n → y < n → facts_of st n compatible x y ≡ true → labels_differ list_with_label x y ≡ true
+  clash_at : (x y : ℕ) → x < n → y < n → facts_of st n Kind.Compatible x y ≡ true → labels_differ list_with_label x y ≡ true
       → clashes list_with_label n ≡ true
   unfolding list_with_label clashes_at
   clash_at x y g g' p d =
@@ -94,11 +95,11 @@ module _ (n : ℕ) (st : List Statement) (names : AllName n st) (i a : ℕ) (h :
   unfolding list_with_label meets
   met p =
       below_one n _ p λ j g test.
-      other_of st j a (second_of_and (facts_of st n compatible i j) _ test) λ b s d.
+      other_of st j a (second_of_and (facts_of st n Kind.Compatible i j) _ test) λ b s d.
       clash_at i j h g (first_of_and _ _ test) (differ_by (last_stated st _) (still _ s) d)
 
   -- of two labels that clash one is the last, and the other was stated
-  meets_by : (x b : ℕ) → x < n → facts_of st n compatible i x ≡ true → Stated st (labelling x b) → (a ≡ b → ⊥)
+  meets_by : (x b : ℕ) → x < n → facts_of st n Kind.Compatible i x ≡ true → Stated st (labelling x b) → (a ≡ b → ⊥)
       → any_below n (meets (facts_of st n) st i a) ≡ true
   unfolding meets
   meets_by x b g p s d = below_by _ n x g (both p (other_by s d))
@@ -107,7 +108,7 @@ module _ (n : ℕ) (st : List Statement) (names : AllName n st) (i a : ℕ) (h :
   unfolding list_with_label clashes_at
   clashed clear p =
       clashing list_with_label n p λ x y least.
-      let alike : facts_of st n compatible x y ≡ true = rw same_derived (first_of_and _ _ least.applies) in
+      let alike : facts_of st n Kind.Compatible x y ≡ true = rw same_derived (first_of_and _ _ least.applies) in
       let turned = (derived_closed n st names).symmetric x y alike in
       differ_of list_with_label x y (second_of_and _ _ least.applies) λ b c s s' d.
       stated_of st _ s
@@ -135,7 +136,7 @@ single_labels_lem {n} {st} stand names clear =
           refuted _ λ p.
           let two = several_two (stand.at i h) p in
           contrary
-          (both ((derived_closed n st names).reflexive compatible i h)
+          (both ((derived_closed n st names).reflexive Kind.Compatible i h)
           (differ_by two.first_stated two.second_stated two.differs))
           (not_clashing st n clear i i h h);
     }

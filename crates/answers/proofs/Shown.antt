@@ -15,7 +15,8 @@ use Rattle.fields.specs.Tests.{same}
 use Rattle.fields.proofs.Choice.{is_same, same_true}
 use Rattle.items.specs.declared.items.Statement.{Statement}
 use Rattle.rules.specs.Stated.{selection, Stated}
-use Rattle.rules.specs.Facts.{ordered, compatible, Relation}
+use Rattle.rules.specs.declared.kinds.Kind.{Kind}
+use Rattle.rules.specs.Facts.{Relation}
 use Rattle.rules.specs.Tables.{facts}
 use Rattle.rules.specs.Support.{under_child, over_child, under_label, supported}
 use Rattle.rules.proofs.Logic.{same_tests}
@@ -64,13 +65,13 @@ module _ {n : ℕ} {st : List Statement} {list : List Selection} (lawful : Selec
       (λ p. passing_at (is_under r i f j) list (selection_of 0 0 0) p λ k h q.
       let s = selection_at list k in
       let rest = second_passes (same s.feature.0 f) _ q in
-      under_by r (stated_at k h (first_passes _ _ q)) (first_passes (r ordered s.subject.0 i) _ rest)
-      (second_passes (r ordered s.subject.0 i) _ rest))
+      under_by r (stated_at k h (first_passes _ _ q)) (first_passes (r Kind.Ordered s.subject.0 i) _ rest)
+      (second_passes (r Kind.Ordered s.subject.0 i) _ rest))
       (λ p. under_of st r i f j p λ k m s a b.
       let l = stand.listed k f m s in
       list_any_at (is_under r i f j) list l.at (selection_of 0 0 0) l.in_list
       (both_true (is_same _ f l.feature)
-      (both_true (ap (λ x. r ordered x i) l.subject ∙ a) (ap (λ x. r ordered j x) l.child ∙ b))))
+      (both_true (ap (λ x. r Kind.Ordered x i) l.subject ∙ a) (ap (λ x. r Kind.Ordered j x) l.child ∙ b))))
 
   pub over_sought : list_any (is_over r i f j) list ≡ over_child st r i f j
   over_sought =
@@ -78,17 +79,17 @@ module _ {n : ℕ} {st : List Statement} {list : List Selection} (lawful : Selec
       (λ p. passing_at (is_over r i f j) list (selection_of 0 0 0) p λ k h q.
       let s = selection_at list k in
       let rest = second_passes (same s.feature.0 f) _ q in
-      over_by r (stated_at k h (first_passes _ _ q)) (first_passes (r ordered i s.subject.0) _ rest)
-      (second_passes (r ordered i s.subject.0) _ rest))
+      over_by r (stated_at k h (first_passes _ _ q)) (first_passes (r Kind.Ordered i s.subject.0) _ rest)
+      (second_passes (r Kind.Ordered i s.subject.0) _ rest))
       (λ p. over_of st r i f j p λ k m s a b.
       let l = stand.listed k f m s in
       list_any_at (is_over r i f j) list l.at (selection_of 0 0 0) l.in_list
       (both_true (is_same _ f l.feature)
-      (both_true (ap (λ x. r ordered i x) l.subject ∙ a) (ap (λ x. r ordered x j) l.child ∙ b))))
+      (both_true (ap (λ x. r Kind.Ordered i x) l.subject ∙ a) (ap (λ x. r Kind.Ordered x j) l.child ∙ b))))
 
 -- k has the label a alone and is below i
 abbrev pub label_at : Relation → List Spread → ℕ → ℕ → ℕ → Bool
-label_at r spreads i a k = is_only (spread_at spreads k) a && r ordered k i
+label_at r spreads i a k = is_only (spread_at spreads k) a && r Kind.Ordered k i
 
 pub label_sought : (n : ℕ) (t : List ℕ) {st : List Statement} {spreads : List Spread} → LabelsStand n st spreads
     → SingleLabels n spreads → (i a : ℕ)
@@ -100,17 +101,17 @@ label_sought n t {st} {spreads} stand one i a =
     label_by (facts n t) (only_stated (stand.at k h) (first_passes _ _ q))
     (second_passes (is_only (spread_at spreads k) a) _ q))
     (λ p. label_under st (facts n t) i a p λ k s o.
-    let h = fact_row n t ordered k i o in
+    let h = fact_row n t Kind.Ordered k i o in
     below_by _ n k h (both_true (stated_only (stand.at k h) (one.single k h) s) o))
 
 -- what is told of a question, by its kind
 module _ {n : ℕ} {t : List ℕ} {list : List Selection} {spreads : List Spread} {q : Statement} {r : Bool} where
   module _ {i j : Variable} {x y : ℕ} (first : x ≡ i.0) (second : y ≡ j.0) where
-    pub by_ordering : q ≡ Statement.Ordering i j → r ≡ facts n t ordered x y → SupportTold n t list spreads q r
+    pub by_ordering : q ≡ Statement.Ordering i j → r ≡ facts n t Kind.Ordered x y → SupportTold n t list spreads q r
     unfolding supported
     by_ordering is p = record { told = λ st selections labels. rw (is, ← first, ← second) p }
 
-    pub by_compatibility : q ≡ Statement.Compatibility i j → r ≡ facts n t compatible x y
+    pub by_compatibility : q ≡ Statement.Compatibility i j → r ≡ facts n t Kind.Compatible x y
         → SupportTold n t list spreads q r
     unfolding supported
     by_compatibility is p = record { told = λ st selections labels. rw (is, ← first, ← second) p }

@@ -2,7 +2,8 @@
 use Rattle.std.specs.Prelude.{ℕ, ◌<◌, Bool, false, ◌&&◌, List, ◌≡◌}
 use Rattle.fields.specs.Tests.{same}
 use Rattle.items.specs.declared.items.Statement.{Statement}
-use Rattle.rules.specs.Facts.{ordered, Relation}
+use Rattle.rules.specs.declared.kinds.Kind.{Kind}
+use Rattle.rules.specs.Facts.{Relation}
 use Rattle.rules.specs.Tables.{facts}
 use Rattle.rules.specs.Support.{under_label, supported}
 use Rattle.selections.specs.declared.listed.Selection.{Selection}
@@ -23,11 +24,11 @@ pub record IsSelection (n : ℕ) (s : Selection) : Type 0 where
 
 -- k[f]m has k ≤ i and j ≤ m
 abbrev pub is_under : Relation → ℕ → ℕ → ℕ → Selection → Bool
-is_under r i f j s = same s.feature.0 f && (r ordered s.subject.0 i && r ordered j s.child.0)
+is_under r i f j s = same s.feature.0 f && (r Kind.Ordered s.subject.0 i && r Kind.Ordered j s.child.0)
 
 -- k[f]m has i ≤ k and m ≤ j
 abbrev pub is_over : Relation → ℕ → ℕ → ℕ → Selection → Bool
-is_over r i f j s = same s.feature.0 f && (r ordered i s.subject.0 && r ordered s.child.0 j)
+is_over r i f j s = same s.feature.0 f && (r Kind.Ordered i s.subject.0 && r Kind.Ordered s.child.0 j)
 
 -- whether some k ≤ i has the label a
 pub record LabelTold (n : ℕ) (t : List ℕ) (spreads : List Spread) (i a : ℕ) (r : Bool) : Type 0 where

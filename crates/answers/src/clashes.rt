@@ -6,7 +6,7 @@ ghost use Rattle.answers.specs.Clashes.{RowTold, ClashTold, LabelClashTold};
 use crate::cells::has_fact;
 use fields::{Label, Variable};
 use labels::Labels;
-use rules::Clash;
+use rules::{Clash, Kind};
 use table::Table;
 
 // The least column at which row i has a clash.
@@ -19,7 +19,7 @@ fn clash_in_row(table: &Table<'_>, labels: &Labels, i: usize) -> Option<Clash>
         return None;
     }
     for j in 0..table.n {
-        if has_fact(table, true, i, j) && labels.differ(i, j) {
+        if has_fact(table, Kind::Compatible, i, j) && labels.differ(i, j) {
             return Some(Clash {
                 first: Variable(i as u8),
                 second: Variable(j as u8),
@@ -48,5 +48,5 @@ pub fn label_clashes(table: &Table<'_>, labels: &Labels, i: usize, a: Label) -> 
     requires { Lent table.now.n table.now.cells.now × (i < table.now.n) }
     ensures { LabelClashTold table.now.n table.now.cells.now labels.now.spreads i a.0 result }
 {
-    (0..table.n).any(|j| has_fact(table, true, i, j) && labels.has_other(j, a))
+    (0..table.n).any(|j| has_fact(table, Kind::Compatible, i, j) && labels.has_other(j, a))
 }

@@ -1,32 +1,33 @@
 // How many facts the table has.
 ghost use Rattle.std.specs.Prelude.{◌<◌, ◌≡◌};
 ghost use Rattle.rules.specs.Tables.{facts, count_facts};
-ghost use Rattle.answers.specs.Cells.{Lent, kind_of};
+ghost use Rattle.answers.specs.Cells.{Lent};
 ghost use Rattle.answers.specs.Counts.{RowCount};
 
 use crate::cells::has_fact;
+use rules::Kind;
 use table::Table;
 
-// The facts of row i: ~ where alike is asked, else ≤.
+// The facts of the kind in row i.
 #[tactic(auto, unfolding(rules::specs::Tables::count_passing, rules::specs::Tables::count_row, fields::specs::Tests::pick))]
-fn count_row(table: &Table<'_>, alike: bool, i: usize) -> usize
+fn count_row(table: &Table<'_>, kind: Kind, i: usize) -> usize
     requires { Lent table.now.n table.now.cells.now × (i < table.now.n) }
-    ensures { RowCount table.now.n table.now.cells.now (kind_of alike) i result }
+    ensures { RowCount table.now.n table.now.cells.now kind i result }
 {
     (0..table.n)
-        .filter(|j| has_fact(table, alike, i, *j))
+        .filter(|j| has_fact(table, kind, i, *j))
         .count()
 }
 
 // The facts of the kind in all rows.
 #[tactic(auto, unfolding(rules::specs::Tables::count_rows, rules::specs::Tables::count_facts))]
-pub fn count_facts(table: &Table<'_>, alike: bool) -> usize
+pub fn count_facts(table: &Table<'_>, kind: Kind) -> usize
     requires { Lent table.now.n table.now.cells.now }
-    ensures { result ≡ count_facts table.now.n (facts table.now.n table.now.cells.now) (kind_of alike) }
+    ensures { result ≡ count_facts table.now.n (facts table.now.n table.now.cells.now) kind }
 {
     let mut count = 0;
     for i in 0..table.n {
-        count += count_row(table, alike, i);
+        count += count_row(table, kind, i);
     }
     count
 }

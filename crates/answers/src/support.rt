@@ -11,6 +11,7 @@ use crate::cells::has_fact;
 use fields::{Feature, Label};
 use items::Statement;
 use labels::Labels;
+use rules::Kind;
 use selections::Selection;
 use table::Table;
 
@@ -22,8 +23,8 @@ fn is_under(table: &Table<'_>, selection: &Selection, i: usize, f: Feature, j: u
     ensures { result ≡ is_under (facts table.now.n table.now.cells.now) i f.0 j selection.now }
 {
     selection.feature == f
-        && has_fact(table, false, selection.subject.index(), i)
-        && has_fact(table, false, j, selection.child.index())
+        && has_fact(table, Kind::Ordered, selection.subject.index(), i)
+        && has_fact(table, Kind::Ordered, j, selection.child.index())
 }
 
 // Whether it is some k[f]m with i ≤ k and m ≤ j.
@@ -34,8 +35,8 @@ fn is_over(table: &Table<'_>, selection: &Selection, i: usize, f: Feature, j: us
     ensures { result ≡ is_over (facts table.now.n table.now.cells.now) i f.0 j selection.now }
 {
     selection.feature == f
-        && has_fact(table, false, i, selection.subject.index())
-        && has_fact(table, false, selection.child.index(), j)
+        && has_fact(table, Kind::Ordered, i, selection.subject.index())
+        && has_fact(table, Kind::Ordered, selection.child.index(), j)
 }
 
 // Whether some selection of the list is so under.
@@ -64,7 +65,7 @@ fn has_label(table: &Table<'_>, labels: &Labels, i: usize, a: Label) -> bool
     requires single_labels { SingleLabels table.now.n labels.now.spreads }
     ensures { LabelTold table.now.n table.now.cells.now labels.now.spreads i a.0 result }
 {
-    (0..table.n).any(|k| labels.spreads[k].is_only(a) && has_fact(table, false, k, i))
+    (0..table.n).any(|k| labels.spreads[k].is_only(a) && has_fact(table, Kind::Ordered, k, i))
 }
 
 // Whether the question is supported.
@@ -75,8 +76,8 @@ pub fn supports(table: &Table<'_>, list: &[Selection], labels: &Labels, q: State
     ensures { SupportTold table.now.n table.now.cells.now list.now labels.now.spreads q result }
 {
     match q {
-        Statement::Ordering(i, j) => has_fact(table, false, i.index(), j.index()),
-        Statement::Compatibility(i, j) => has_fact(table, true, i.index(), j.index()),
+        Statement::Ordering(i, j) => has_fact(table, Kind::Ordered, i.index(), j.index()),
+        Statement::Compatibility(i, j) => has_fact(table, Kind::Compatible, i.index(), j.index()),
         Statement::Selection(i, f, j) => {
             let subject = i.index();
             let child = j.index();

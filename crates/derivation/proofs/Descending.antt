@@ -6,7 +6,8 @@ use mathlib.Core.Path.{◌≡◌, refl, sym, ap, subst, ◌∙◌}
 use native.Mathlib.Omega.{arith}
 use Rattle.fields.specs.Tests.{less, same, pick}
 use Rattle.fields.proofs.Choice.{is_same, same_true, less_true, less_false}
-use Rattle.rules.specs.Facts.{Kind, Holds}
+use Rattle.rules.specs.declared.kinds.Kind.{Kind}
+use Rattle.rules.specs.Facts.{Holds}
 use Rattle.rules.specs.Tables.{says, cell_at, facts, Shape}
 use Rattle.rules.proofs.Cells.{says_nothing}
 use Rattle.rules.proofs.Logic.{decided, contrary}
@@ -24,6 +25,13 @@ use Rattle.derivation.specs.Descent.{start_at, end_at, feature_at, variable_at}
 use Rattle.derivation.specs.Descent.{Under, UnderAll, HandedDown, Running, Handing, is_new, NoneNew, FirstNew}
 use Rattle.derivation.specs.Descent.{NoRowNew, NextRow, Visiting}
 use Rattle.derivation.specs.Descent.{Visited}
+
+-- a fact of one number of variables, at an equal one
+pub to_size : (P : ℕ → Type 0) {m n : ℕ} → m ≡ n → P m → P n
+to_size P same p = subst P same p
+
+pub at_size : (P : ℕ → Type 0) {m n : ℕ} → m ≡ n → P n → P m
+at_size P same p = subst P (sym same) p
 
 -- a place that is not new has nothing to tell, and a new one has the feature
 module _ (n : ℕ) (t : List ℕ) (groups : Groups) (w f i k : ℕ) where
@@ -199,11 +207,13 @@ module _ {n : ℕ} {s : State} {groups : Groups} {w u v : ℕ} (handing : Handin
         }
 
     -- and one row more
-    pub handed_next : {s'' : State} (at x : ℕ)
-        → NextRow n s'.table groups w (start_at groups v) (end_at groups v) k (end_at groups u) at
-        → x ≡ variable_at groups at → Steps n (UnderAll groups w (feature_at groups at) x v) s' s''
+    pub handed_next : {m : ℕ} {s'' : State} (at x : ℕ) → m ≡ n
+        → NextRow m s'.table groups w (start_at groups v) (end_at groups v) k (end_at groups u) at
+        → x ≡ variable_at groups at → Steps m (UnderAll groups w (feature_at groups at) x v) s' s''
         → HandedUpto n groups w u v s s'' (at + 1)
-    handed_next at x row e steps =
+    handed_next {s'' = s''} at x same found e told =
+        let row = to_size (λ z. NextRow z s'.table groups w (start_at groups v) (end_at groups v) k (end_at groups u) at) same found in
+        let steps = to_size (λ z. Steps z (UnderAll groups w (feature_at groups at) x v) s' s'') same told in
         let before = handed_pass at row.behind (omega (arith, row.ahead)) row.passed in
         record {
           along = along_next before.along row.ahead;
@@ -213,9 +223,11 @@ module _ {n : ℕ} {s : State} {groups : Groups} {w u v : ℕ} (handing : Handin
         }
 
     -- no row is left
-    pub handed_all : NoRowNew n s'.table groups w (start_at groups v) (end_at groups v) k (end_at groups u)
+    pub handed_all : {m : ℕ} → m ≡ n
+        → NoRowNew m s'.table groups w (start_at groups v) (end_at groups v) k (end_at groups u)
         → Steps n (HandedDown groups w u v) s s'
-    handed_all none =
+    handed_all same passed =
+        let none = to_size (λ z. NoRowNew z s'.table groups w (start_at groups v) (end_at groups v) k (end_at groups u)) same passed in
         decided (less k (end_at groups u))
         (λ p. let h = less_true _ _ p in (handed_pass (end_at groups u) (omega arith) (omega arith) none).steps)
         (λ p.
@@ -235,22 +247,25 @@ module _ {n : ℕ} {s : State} {groups : Groups} {w i v : ℕ} (handing : Handin
         steps = steps_start (Under groups w f i) _ s handing.running.ready.shape handing.running.framed;
       }
 
-  module _ {s' : State} {k : ℕ} (told : ToldUpto n groups w f i v s s' k) where
+  module _ {s' : State} {k : ℕ} (so_far : ToldUpto n groups w f i v s s' k) where
     -- up to a later place, once no place before it is new
     told_pass : (at : ℕ) → k ≤ at → at ≤ end_at groups v → NoneNew n s'.table groups w f i k at
         → ToldUpto n groups w f i v s s' at
     told_pass at h inside none =
         record {
-          along = along_pass at told.along h (λ x a b. omega arith);
+          along = along_pass at so_far.along h (λ x a b. omega arith);
           steps =
               steps_pass (Under groups w f i) at h
-              (passed_told handing told.steps.moves k at f told.along.behind inside none) told.steps;
+              (passed_told handing so_far.steps.moves k at f so_far.along.behind inside none) so_far.steps;
         }
 
     -- and one child more
-    pub told_next : {s'' : State} (at x : ℕ) → FirstNew n s'.table groups w f i k (end_at groups v) at
-        → x ≡ variable_at groups at → Steps n (Said w i x) s' s'' → ToldUpto n groups w f i v s s'' (at + 1)
-    told_next at x place e steps =
+    pub told_next : {m : ℕ} {s'' : State} (at x : ℕ) → m ≡ n
+        → FirstNew m s'.table groups w f i k (end_at groups v) at → x ≡ variable_at groups at
+        → Steps m (Said w i x) s' s'' → ToldUpto n groups w f i v s s'' (at + 1)
+    told_next {s'' = s''} at x same found e told =
+        let place = to_size (λ z. FirstNew z s'.table groups w f i k (end_at groups v) at) same found in
+        let steps = to_size (λ z. Steps z (Said w i x) s' s'') same told in
         let before = told_pass at place.behind (omega (arith, place.ahead)) place.passed in
         record {
           along = along_next before.along place.ahead;
@@ -260,8 +275,10 @@ module _ {n : ℕ} {s : State} {groups : Groups} {w i v : ℕ} (handing : Handin
         }
 
     -- no place is left
-    pub told_all : NoneNew n s'.table groups w f i k (end_at groups v) → Steps n (UnderAll groups w f i v) s s'
-    told_all none =
+    pub told_all : {m : ℕ} → m ≡ n → NoneNew m s'.table groups w f i k (end_at groups v)
+        → Steps n (UnderAll groups w f i v) s s'
+    told_all same passed =
+        let none = to_size (λ z. NoneNew z s'.table groups w f i k (end_at groups v)) same passed in
         decided (less k (end_at groups v))
         (λ p. let h = less_true _ _ p in (told_pass (end_at groups v) (omega arith) (omega arith) none).steps)
-        (λ p. steps_along (Under groups w f i) told.along (less_false _ _ p) told.steps)
+        (λ p. steps_along (Under groups w f i) so_far.along (less_false _ _ p) so_far.steps)

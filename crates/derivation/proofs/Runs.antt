@@ -4,7 +4,8 @@ use lib.ListN.{length}
 use mathlib.Core.Logic.{◌⊎◌, inl, inr, ⊎_elim}
 use mathlib.Core.Path.{◌≡◌, ap, ◌∙◌}
 use native.Mathlib.Omega.{arith}
-use Rattle.rules.specs.Facts.{Kind, Relation, Holds, Within}
+use Rattle.rules.specs.declared.kinds.Kind.{Kind}
+use Rattle.rules.specs.Facts.{Relation, Holds, Within}
 use Rattle.rules.specs.Tables.{facts}
 use Rattle.rules.proofs.Tables.{fact_row, fact_column}
 use Rattle.table.specs.declared.queue.Entry.{Entry}
@@ -17,6 +18,7 @@ use Rattle.selections.specs.Groups.{Grouped}
 use Rattle.selections.specs.Stands.{Selected}
 use Rattle.derivation.specs.Descent.{Visited}
 use Rattle.derivation.specs.Settled.{Handed, Descends, Pending, Starting, Settled}
+use Rattle.derivation.proofs.Descending.{to_size}
 
 -- the queue is no longer than its room
 pub tail_bound : {n : ℕ} {s : State} → Ready n s → length s.queue ≤ queue_room
@@ -56,8 +58,11 @@ module _ {n : ℕ} {s : State} {groups : Groups}
     halfway_ready = ready_after starting.running.ready half.moves
 
     -- one more entry is visited
-    module _ {s'' : State} (entry : Entry) (e : entry ≡ entry_at s'.queue head) (h : head < length s'.queue)
-        (steps : Steps n (Visited n s'.table groups entry) s' s'') where
+    module _ {m : ℕ} {s'' : State} (entry : Entry) (same : m ≡ n) (e : entry ≡ entry_at s'.queue head)
+        (h : head < length s'.queue) (visited : Steps m (Visited m s'.table groups entry) s' s'') where
+      steps : Steps n (Visited n s'.table groups entry) s' s''
+      steps = to_size (λ z. Steps z (Visited z s'.table groups entry) s' s'') same visited
+
       handed_entry : (kind : Kind) → Holds (facts n s'.table) kind entry.first.0 entry.second.0
           → Handed chosen (facts n s''.table) kind entry.first.0 entry.second.0
       handed_entry kind p =
@@ -67,8 +72,8 @@ module _ {n : ℕ} {s : State} {groups : Groups}
           }
 
       from_queue : (kind : Kind) (i j : ℕ) → Holds (facts n s'.table) kind i j
-          → Queued s'.queue head length s'.queue i j
-          → Queued s''.queue (head + 1) length s''.queue i j ⊎ Handed chosen (facts n s''.table) kind i j
+          → Queued s'.queue head (length s'.queue) i j
+          → Queued s''.queue (head + 1) (length s''.queue) i j ⊎ Handed chosen (facts n s''.table) kind i j
       from_queue kind i j p q =
           first_or_later q
           (λ a b.

@@ -2,7 +2,8 @@
 use Rattle.std.specs.Prelude.{ℕ, ◌<◌, ◌≤◌, Bool, true, false, List, ◌≡◌}
 use Rattle.fields.specs.Limits.{most_variables}
 use Rattle.fields.specs.Tests.{same, pick}
-use Rattle.rules.specs.Facts.{Kind, Holds}
+use Rattle.rules.specs.declared.kinds.Kind.{Kind}
+use Rattle.rules.specs.Facts.{Holds}
 use Rattle.rules.specs.Tables.{cell_at, facts, Shape}
 use Rattle.table.specs.declared.queue.Entry.{Entry}
 use Rattle.table.specs.Cells.{is_lacking}

@@ -1,6 +1,7 @@
 -- The run of the queue: at its end no rule adds a fact.
 use Rattle.std.specs.Prelude.{ℕ, ◌<◌, length, ◌⊎◌}
-use Rattle.rules.specs.Facts.{Kind, Relation, Holds, Within}
+use Rattle.rules.specs.declared.kinds.Kind.{Kind}
+use Rattle.rules.specs.Facts.{Relation, Holds, Within}
 use Rattle.rules.specs.Tables.{facts}
 use Rattle.table.specs.Queue.{Queued, State}
 use Rattle.facts.specs.Additions.{Moves, Framed}

@@ -5,7 +5,8 @@ use Rattle.fields.specs.Fields.{variable}
 use Rattle.items.specs.declared.items.Statement.{Statement}
 use Rattle.items.specs.Statements.{AllName}
 use Rattle.rules.specs.Stated.{Stated}
-use Rattle.rules.specs.Facts.{fact, Kind}
+use Rattle.rules.specs.declared.kinds.Kind.{Kind}
+use Rattle.rules.specs.Facts.{fact}
 use Rattle.rules.specs.Derived.{derived}
 use Rattle.rules.specs.Tables.{facts, Shape}
 use Rattle.table.specs.Queue.{State, Ready}
@@ -16,9 +17,12 @@ use Rattle.selections.specs.Stands.{SelectionsStand}
 use Rattle.derivation.specs.declared.pairs.Pair.{Pair}
 use Rattle.derivation.specs.Settled.{Descends}
 
--- what stands where no pair does
+-- what a cell says of two variables, and what stands where no pair does
+abbrev pub pair_of : ℕ → ℕ → ℕ → Pair
+pair_of cell i j = record { cell = cell; left = variable i; right = variable j }
+
 abbrev pub no_pair : Pair
-no_pair = record { cell = 0; left = variable 0; right = variable 0 }
+no_pair = pair_of 0 0 0
 
 abbrev pub pair_at : List Pair → ℕ → Pair
 pair_at pairs k = get_or pairs k no_pair

@@ -28,13 +28,20 @@ fn is_new(table: &Table, groups: &Groups, w: u8, f: Feature, i: usize, at: usize
 }
 
 // The first such place of these.
-fn seek(table: &Table, groups: &Groups, w: u8, f: Feature, i: usize, places: Range<usize>) -> Option<usize>
+fn seek(
+    table: &Table,
+    groups: &Groups,
+    w: u8,
+    f: Feature,
+    i: usize,
+    places: Range<usize>,
+) -> Option<usize>
     requires { Seeking table.now.n table.now.cells.now groups.now i places.start places.end }
     ensures { MatchOption result
         (NoneNew table.now.n table.now.cells.now groups.now w f.0 i places.start places.end)
         (FirstNew table.now.n table.now.cells.now groups.now w f.0 i places.start places.end) }
 {
-    for at in places {
+    for at in places.start..places.end {
         if is_new(table, groups, w, f, i, at) {
             return Some(at);
         }
@@ -69,7 +76,7 @@ fn seek_row(
         (NoRowNew table.now.n table.now.cells.now groups.now w places.start places.end rows.start rows.end)
         (NextRow table.now.n table.now.cells.now groups.now w places.start places.end rows.start rows.end) }
 {
-    for at in rows {
+    for at in rows.start..rows.end {
         let child = groups.children[at];
         if seek(
             table,
@@ -96,7 +103,13 @@ fn hand_down(growth: &mut Growth, groups: &Groups, w: u8, u: usize, v: usize)
     let rows = groups.groups[u];
     let others = groups.groups[v];
     let mut from = rows.start;
-    while let Some(at) = seek_row(&growth.table, groups, w, from..rows.end, others.start..others.end) {
+    while let Some(at) = seek_row(
+        &growth.table,
+        groups,
+        w,
+        from..rows.end,
+        others.start..others.end,
+    ) {
         let child = groups.children[at];
         tell_all(growth, groups, w, child.feature, child.variable.index(), v);
         from = at + 1;
@@ -127,7 +140,8 @@ pub fn run(growth: &mut Growth, groups: &Groups)
 {
     let mut head = 0;
     while head < growth.queue.len() {
-        visit(growth, groups, growth.queue[head]);
+        let entry = growth.queue[head];
+        visit(growth, groups, entry);
         head += 1;
     }
 }

@@ -8,7 +8,8 @@ use mathlib.Core.Path.{◌≡◌, refl, ◌∙◌}
 use native.Mathlib.Omega.{arith}
 use Rattle.fields.specs.Tests.{less}
 use Rattle.fields.proofs.Choice.{less_true, less_false}
-use Rattle.rules.specs.Facts.{Kind, ordered, compatible, Holds, Within}
+use Rattle.rules.specs.declared.kinds.Kind.{Kind}
+use Rattle.rules.specs.Facts.{Holds, Within}
 use Rattle.rules.specs.Tables.{facts, Shape, count_facts}
 use Rattle.rules.proofs.Counts.{count_most, count_back, count_bound}
 use Rattle.rules.proofs.Logic.{decided, contrary}
@@ -83,12 +84,12 @@ module _ (n : ℕ) (t t' : List ℕ) (grows : Within (facts n t) (facts n t')) w
   pub more_facts : (kind : Kind) (i j : ℕ) → i < n → j < n → Holds (facts n t') kind i j → facts n t kind i j ≡ false
       → fact_count n t < fact_count n t'
   unfolding fact_count
-  more_facts ordered i j h g p q =
-      omega (arith, more_of ordered i j h g p q, count_most n (facts n t) (facts n t') grows compatible)
-  more_facts compatible i j h g p q =
-      omega (arith, more_of compatible i j h g p q, count_most n (facts n t) (facts n t') grows ordered)
+  more_facts Kind.Ordered i j h g p q =
+      omega (arith, more_of Kind.Ordered i j h g p q, count_most n (facts n t) (facts n t') grows Kind.Compatible)
+  more_facts Kind.Compatible i j h g p q =
+      omega (arith, more_of Kind.Compatible i j h g p q, count_most n (facts n t) (facts n t') grows Kind.Ordered)
 
 -- there are at most two facts for each pair
 pub fact_bound : (n : ℕ) (t : List ℕ) → fact_count n t ≤ 2 * (n * n)
 unfolding fact_count
-fact_bound n t = omega (arith, count_bound n (facts n t) ordered, count_bound n (facts n t) compatible)
+fact_bound n t = omega (arith, count_bound n (facts n t) Kind.Ordered, count_bound n (facts n t) Kind.Compatible)

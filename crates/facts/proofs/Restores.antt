@@ -5,7 +5,8 @@ use mathlib.Core.List.{List}
 use mathlib.Core.Logic.{◌⊎◌, inl, inr, ⊎_elim}
 use mathlib.Core.Path.{◌≡◌, sym, ap, ◌∙◌}
 use native.Mathlib.Omega.{arith}
-use Rattle.rules.specs.Facts.{Kind, Holds}
+use Rattle.rules.specs.declared.kinds.Kind.{Kind}
+use Rattle.rules.specs.Facts.{Holds}
 use Rattle.rules.specs.Tables.{says, cell_at, facts}
 use Rattle.rules.proofs.Logic.{same_tests}
 use Rattle.rules.proofs.Tables.{fact_row, fact_column, fact_said, same_facts}

@@ -9,7 +9,8 @@ use mathlib.Core.Path.{◌≡◌, sym, ap, subst, ◌∙◌}
 use native.Mathlib.Omega.{arith}
 use Rattle.fields.specs.Tests.{same}
 use Rattle.rules.specs.Connectives.{◌or◌}
-use Rattle.rules.specs.Facts.{Kind, Holds, Within}
+use Rattle.rules.specs.declared.kinds.Kind.{Kind}
+use Rattle.rules.specs.Facts.{Holds, Within}
 use Rattle.rules.specs.Tables.{says, cell_at, facts}
 use Rattle.rules.proofs.Logic.{either_first, either_second, either_of}
 use Rattle.rules.proofs.Tables.{fact_row, fact_column, fact_said}

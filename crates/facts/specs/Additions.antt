@@ -1,6 +1,7 @@
 -- What is added to a fact table, and how the queue follows.
 use Rattle.std.specs.Prelude.{ℕ, ◌+◌, ◌<◌, ◌≤◌, length, true, ◌⊎◌, ◌≡◌}
-use Rattle.rules.specs.Facts.{Kind, ordered, compatible, Relation, Holds, Within}
+use Rattle.rules.specs.declared.kinds.Kind.{Kind}
+use Rattle.rules.specs.Facts.{Relation, Holds, Within}
 use Rattle.rules.specs.Tables.{says, facts, Shape}
 use Rattle.table.specs.Queue.{entry_at, Queued, IsEntry, State, fact_count}
 
@@ -50,9 +51,9 @@ pub record Framed (n : ℕ) (r : Relation) : Type 0 where
   -- F1.1, F3.1
   pub reflexive : (kind : Kind) (i : ℕ) → i < n → Holds r kind i i
   -- F1.2, F3.2
-  pub through : (kind : Kind) (i j k : ℕ) → Holds r ordered i j → Holds r kind j k → Holds r kind i k
+  pub through : (kind : Kind) (i j k : ℕ) → Holds r Kind.Ordered i j → Holds r kind j k → Holds r kind i k
   -- F3.3
-  pub symmetric : (i j : ℕ) → Holds r compatible i j → Holds r compatible j i
+  pub symmetric : (i j : ℕ) → Holds r Kind.Compatible i j → Holds r Kind.Compatible j i
 
 -- the facts of P are added with what F1 and F3 give from them, and no other
 pub record Steps (n : ℕ) (P : Facts) (s s' : State) : Type 0 where

@@ -3,7 +3,7 @@ use Rattle.std.specs.Prelude.{ℕ, ◌<◌, ◌≤◌, get_or, Bool, true, false
 use Rattle.fields.specs.Limits.{most_variables}
 use Rattle.fields.specs.Tests.{pick}
 use Rattle.rules.specs.Connectives.{◌and◌}
-use Rattle.rules.specs.Facts.{Kind, ordered, compatible}
+use Rattle.rules.specs.declared.kinds.Kind.{Kind}
 use Rattle.rules.specs.Tables.{says, cell_at, facts, Shape}
 use Rattle.table.specs.Cells.{is_lacking}
 use Rattle.table.specs.Queue.{State, Ready}
@@ -19,7 +19,7 @@ pub record Taking (n : ℕ) (s : State) (w x y : ℕ) : Type 0 where
 -- both sides of a pair: w at x and y, and ~ at y and x where w says it
 pub data Sides (w x y : ℕ) (kind : Kind) (i j : ℕ) : Type 0 where
   along : Said w x y kind i j → Sides w x y kind i j
-  back : says compatible w ≡ true → Said 2 y x kind i j → Sides w x y kind i j
+  back : says Kind.Compatible w ≡ true → Said 2 y x kind i j → Sides w x y kind i j
 
 -- x takes each cell of a row
 abbrev pub RowTaken : ℕ → List ℕ → ℕ → Facts
@@ -50,11 +50,11 @@ pub record TakingRows (n : ℕ) (s : State) (row : List ℕ) : Type 0 where
 
 -- a variable is marked where it is below u and lacks w at v
 unfoldable pub mark_of : ℕ → List ℕ → ℕ → ℕ → ℕ → ℕ → Bool
-mark_of n t w u v x = says ordered (cell_at n t x u) and is_lacking (cell_at n t x v) w
+mark_of n t w u v x = says Kind.Ordered (cell_at n t x u) and is_lacking (cell_at n t x v) w
 
 -- the cell that what is below u takes at y, once w holds of u and v: v's own for ≤, and ~ below v for ~ alone
 unfoldable pub cell_taken_at : ℕ → List ℕ → ℕ → ℕ → ℕ → ℕ
-cell_taken_at n t w v y = pick (says ordered w) (cell_at n t v y) (pick (says ordered (cell_at n t y v)) 2 0)
+cell_taken_at n t w v y = pick (says Kind.Ordered w) (cell_at n t v y) (pick (says Kind.Ordered (cell_at n t y v)) 2 0)
 
 -- t is a table of n variables, u and v among them
 pub record Looking (n : ℕ) (t : List ℕ) (u v : ℕ) : Type 0 where

@@ -1,7 +1,8 @@
 -- A table that grew from another, to be made that one again.
 use Rattle.std.specs.Prelude.{ℕ, ◌<◌, ◌≤◌, length, List, ◌⊎◌}
 use Rattle.fields.specs.Limits.{most_variables}
-use Rattle.rules.specs.Facts.{Kind, Holds, Within}
+use Rattle.rules.specs.declared.kinds.Kind.{Kind}
+use Rattle.rules.specs.Facts.{Holds, Within}
 use Rattle.rules.specs.Tables.{facts, Shape}
 use Rattle.table.specs.Queue.{entry_at, Queued, IsEntry, State}
 

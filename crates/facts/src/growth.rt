@@ -1,11 +1,11 @@
 // A table that grows, and the queue of its changed cells: each cell that changes is queued.
-ghost use Rattle.rules.specs.Facts.{compatible};
 ghost use Rattle.facts.specs.Additions.{Said, Added};
 ghost use Rattle.facts.specs.Growth.{state_of, IsSame};
 ghost use Rattle.facts.specs.Insertion.{Taking, TakingRow, TakingRows, Sides, RowTaken, RowsTaken};
 
 use fields::MOST_VARIABLES;
-use table::{Queue, Table, push, says_compatible};
+use rules::Kind;
+use table::{Queue, Table, push, says};
 
 // The table, and the pairs whose cells changed.
 #[derive(Drop)]
@@ -40,7 +40,7 @@ impl Growth<'_> {
         if w != 0 {
             self.take_cell(w, x, y);
         }
-        if says_compatible(w) {
+        if says(Kind::Compatible, w) {
             self.take_cell(2, y, x);
         }
     }

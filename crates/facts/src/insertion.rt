@@ -9,7 +9,8 @@ ghost use Rattle.facts.specs.Insertion.{mark_of, cell_taken_at, Columns, Rows, L
 
 use crate::growth::Growth;
 use fields::MOST_VARIABLES;
-use table::{Table, lacks, says_ordered};
+use rules::Kind;
+use table::{Table, lacks, says};
 
 // Whether x is below u and lacks w at v.
 #[tactic(auto, using(crate::proofs::Inserting::marks))]
@@ -18,7 +19,7 @@ fn mark(table: &Table, w: u8, u: usize, v: usize, x: usize) -> bool
     requires lacking { Cell table.now.n table.now.cells.now x v }
     ensures { result ≡ mark_of table.now.n table.now.cells.now w u v x }
 {
-    says_ordered(table.look(x, u)) && lacks(table.look(x, v), w)
+    says(Kind::Ordered, table.look(x, u)) && lacks(table.look(x, v), w)
 }
 
 // Marks what is below u and lacks w at v.
@@ -40,9 +41,9 @@ fn taken(table: &Table, w: u8, v: usize, y: usize) -> u8
     requires back { Cell table.now.n table.now.cells.now y v }
     ensures { result ≡ cell_taken_at table.now.n table.now.cells.now w v y }
 {
-    if says_ordered(w) {
+    if says(Kind::Ordered, w) {
         table.look(v, y)
-    } else if says_ordered(table.look(y, v)) {
+    } else if says(Kind::Ordered, table.look(y, v)) {
         2
     } else {
         0

@@ -38,12 +38,12 @@ pub enum Place {
     Question,
 }
 
-impl Fault {
+impl From<Fault> for u8 {
     // The refusal's number.
-    pub fn number(self) -> u8
-        ensures { result ≡ number_of self }
-    {
-        match self {
+    ghost from_gives = { λ fault number. number ≡ number_of fault };
+
+    fn from(fault: Fault) -> u8 {
+        match fault {
             Fault::Cut => 1,
             Fault::HeaderMap => 2,
             Fault::VariableCount => 3,

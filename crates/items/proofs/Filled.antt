@@ -1,4 +1,5 @@
 -- Where the fields behind an item's subject end, and what they hold.
+use Rattle.std.specs.Prelude.{Result, Ok, Err}
 use Prim.Native.Nat.{ℕ, ◌+◌, ◌≤◌, ◌<◌}
 use mathlib.Core.Bool.{true}
 use mathlib.Core.List.{List}
@@ -6,11 +7,11 @@ use mathlib.Core.Path.{◌≡◌, refl}
 use native.Mathlib.Omega.{arith}
 use Rattle.fields.specs.declared.numbers.Cursor.{Cursor}
 use Rattle.fields.specs.declared.numbers.Variable.{Variable}
+use Rattle.fields.specs.Fields.{Read}
 use Rattle.fields.specs.Tests.{has}
-use Rattle.fields.proofs.Chains.{Of, after_word, after_variable}
+use Rattle.fields.proofs.Chains.{Of, after_field}
 use Rattle.fields.proofs.Extents.{Spans, join, word_if_spans, variable_if_spans}
 use Rattle.items.specs.declared.items.Item.{Item}
-use Rattle.items.specs.declared.items.ItemRead.{ItemRead}
 use Rattle.items.specs.Items.{fields_at, fields_width}
 
 -- the fields behind the subject: their map and subject are the item's, and each variable whose bit stands is below n
@@ -22,19 +23,19 @@ pub record Fills (s : List ℕ) (n map : ℕ) (i : Variable) (c : Cursor) (x : I
   pub child : has 4 map ≡ true → x.child.0 < n
   pub span : Spans s (fields_width map) c next
 
-abbrev pub FieldsSpan : List ℕ → ℕ → ℕ → Variable → Cursor → ItemRead → Type 0
-FieldsSpan s n map i c (ItemRead.Is x next) = Fills s n map i c x next
-FieldsSpan s n map i c (ItemRead.Refused r) = r.at ≤ c.at + fields_width map
+abbrev pub FieldsSpan : List ℕ → ℕ → ℕ → Variable → Cursor → Read Item → Type 0
+FieldsSpan s n map i c (Ok f) = Fills s n map i c f.value f.next
+FieldsSpan s n map i c (Err r) = r.at ≤ c.at + fields_width map
 
 pub fields_span : (s : List ℕ) (n map : ℕ) (i : Variable) (c : Cursor)
     → Of (FieldsSpan s n map i c) (fields_at s n map i c)
 unfolding fields_at fields_width
 fields_span s n map i c =
-    after_variable (variable_if_spans s c n (has 1 map)) (λ q h. record { holds = omega arith }) λ v₁ c₁ p₁.
-    after_variable (variable_if_spans s c₁ n (has 2 map)) (λ q h. record { holds = omega arith }) λ v₂ c₂ p₂.
-    after_word (word_if_spans s c₂ (has 4 map)) (λ q h. record { holds = omega arith }) λ v₃ c₃ p₃.
-    after_variable (variable_if_spans s c₃ n (has 4 map)) (λ q h. record { holds = omega arith }) λ v₄ c₄ p₄.
-    after_word (word_if_spans s c₄ (has 8 map)) (λ q h. record { holds = omega arith }) λ v₅ c₅ p₅.
+    after_field (variable_if_spans s c n (has 1 map)) (λ q h. record { holds = omega arith }) λ v₁ c₁ p₁.
+    after_field (variable_if_spans s c₁ n (has 2 map)) (λ q h. record { holds = omega arith }) λ v₂ c₂ p₂.
+    after_field (word_if_spans s c₂ (has 4 map)) (λ q h. record { holds = omega arith }) λ v₃ c₃ p₃.
+    after_field (variable_if_spans s c₃ n (has 4 map)) (λ q h. record { holds = omega arith }) λ v₄ c₄ p₄.
+    after_field (word_if_spans s c₄ (has 8 map)) (λ q h. record { holds = omega arith }) λ v₅ c₅ p₅.
     record {
       holds = record {
         map_is = refl;

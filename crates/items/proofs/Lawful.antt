@@ -1,4 +1,5 @@
 -- What an item that was read is: its map lawful, its end where its map says, its variables below n.
+use Rattle.std.specs.Prelude.{Result, Ok, Err}
 use Prim.Native.Nat.{ℕ, ◌+◌, ◌≤◌, ◌<◌}
 use mathlib.Core.Bool.{true, false}
 use mathlib.Core.List.{List}
@@ -9,14 +10,13 @@ use native.Mathlib.Omega.{arith}
 use Rattle.fields.specs.declared.numbers.Cursor.{Cursor}
 use Rattle.fields.specs.declared.refusals.Place.{Place}
 use Rattle.fields.specs.Refusals.{bad_item_map, several_bits}
+use Rattle.fields.specs.Fields.{Read}
 use Rattle.fields.specs.Tests.{less, same, pick, has}
-use Rattle.fields.proofs.Chains.{Of, after_byte, after_variable}
+use Rattle.fields.proofs.Chains.{Of, after_field, as_value}
 use Rattle.fields.proofs.Choice.{same_true, or_right, or_cases, pick_most}
 use Rattle.fields.proofs.Extents.{judged_spans, variable_spans}
 use Rattle.items.specs.declared.items.Item.{Item}
-use Rattle.items.specs.declared.items.ItemRead.{ItemRead}
 use Rattle.items.specs.Items.{map_field, item_at, fields_width, width, most}
-use Rattle.items.proofs.Chains.{as_item_lem}
 use Rattle.items.proofs.Filled.{fields_span}
 
 -- a lawful question map is one bit
@@ -61,9 +61,9 @@ pub record Reads (place : Place) (s : List ℕ) (n : ℕ) (c : Cursor) (x : Item
   pub partner : has 2 x.map ≡ true → x.partner.0 < n
   pub child : has 4 x.map ≡ true → x.child.0 < n
 
-abbrev pub ItemSpans : Place → List ℕ → ℕ → Cursor → ItemRead → Type 0
-ItemSpans place s n c (ItemRead.Is x next) = Reads place s n c x next
-ItemSpans place s n c (ItemRead.Refused r) = r.at ≤ c.at + most place
+abbrev pub ItemSpans : Place → List ℕ → ℕ → Cursor → Read Item → Type 0
+ItemSpans place s n c (Ok f) = Reads place s n c f.value f.next
+ItemSpans place s n c (Err r) = r.at ≤ c.at + most place
 
 pub most_least : (place : Place) → 5 ≤ most place
 most_least Place.Record = omega arith
@@ -72,10 +72,10 @@ most_least Place.Question = omega arith
 pub item_spans : (place : Place) (s : List ℕ) (n : ℕ) (c : Cursor) → Of (ItemSpans place s n c) (item_at place s n c)
 unfolding item_at map_field width
 item_spans place s n c =
-    after_byte (judged_spans s c (bad_item_map place) _ (omega arith))
+    after_field (judged_spans s c (bad_item_map place) _ (omega arith))
     (λ q h. record { holds = omega (arith, most_least place) }) λ map c₁ m.
-    after_variable (variable_spans s c₁ n) (λ q h. record { holds = omega (arith, most_least place) }) λ i c₂ v.
-    as_item_lem (fields_span s n map i c₂) (λ q h. omega (arith, width_most place map m.1)) λ x next f.
+    after_field (variable_spans s c₁ n) (λ q h. record { holds = omega (arith, most_least place) }) λ i c₂ v.
+    as_value (fields_span s n map i c₂) (λ q h. omega (arith, width_most place map m.1)) λ x f.
     record {
       lawful = rw f.map_is m.1;
       reaches = rw f.map_is (omega arith);

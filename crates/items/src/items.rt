@@ -6,8 +6,8 @@ ghost use Rattle.items.specs.Questions.{question_of};
 ghost use Rattle.items.specs.Statements.{statement_of};
 
 use fields::{
-    ByteRead, Cursor, Fault, Feature, Label, Place, Refusal, Variable, VariableRead, WordRead,
-    has_bit, read_byte, read_variable, read_variable_if, read_word_if,
+    Cursor, Fault, Feature, Field, Label, Place, Read, Refusal, Variable, has_bit, read_byte,
+    read_variable, read_variable_if, read_word_if,
 };
 
 // What a record states and a question asks.
@@ -40,25 +40,6 @@ pub struct Item {
     pub feature: Feature,
     pub child: Variable,
     pub label: Label,
-}
-
-#[derive(Clone, Copy)]
-pub enum ItemRead {
-    Is(Item, Cursor),
-    Refused(Refusal),
-}
-
-#[derive(Clone, Copy)]
-pub enum QuestionRead {
-    Asks(Question, Cursor),
-    Refused(Refusal),
-}
-
-// Where a run of items ends.
-#[derive(Clone, Copy)]
-pub enum EndRead {
-    At(Cursor),
-    Refused(Refusal),
 }
 
 // A map other than one bit alone.
@@ -107,83 +88,56 @@ fn is_bad_item_map(place: Place, map: u8) -> bool
 
 // An item's map.
 #[tactic(auto, unfolding(crate::specs::Items::map_field, fields::specs::Tests::pick))]
-fn read_map(place: Place, sheet: &[u8], from: Cursor) -> ByteRead
+fn read_map(place: Place, sheet: &[u8], from: Cursor) -> Read<u8>
     ensures { result ≡ map_field place sheet.now from }
 {
-    match read_byte(sheet, from) {
-        ByteRead::Refused(refusal) => ByteRead::Refused(refusal),
-        ByteRead::Is(field) => {
-            if is_bad_item_map(place, field.value) {
-                ByteRead::Refused(Refusal {
-                    fault: Fault::ItemMap,
-                    at: from.at,
-                })
-            } else {
-                ByteRead::Is(field)
-            }
-        }
+    let map = read_byte(sheet, from)?;
+    if is_bad_item_map(place, map.value) {
+        return Err(Refusal {
+            fault: Fault::ItemMap,
+            at: from.at,
+        });
     }
+    Ok(map)
 }
 
 // The fields behind the subject, by rising bit.
 #[tactic(auto, unfolding(crate::specs::Items::fields_at))]
-fn read_fields(sheet: &[u8], n: u8, map: u8, subject: Variable, from: Cursor) -> ItemRead
+fn read_fields(sheet: &[u8], n: u8, map: u8, subject: Variable, from: Cursor) -> Read<Item>
     ensures { result ≡ fields_at sheet.now n map subject from }
 {
-    let target = match read_variable_if(has_bit(1, map), sheet, n, from) {
-        VariableRead::Is(field) => field,
-        VariableRead::Refused(refusal) => return ItemRead::Refused(refusal),
-    };
-    let partner = match read_variable_if(has_bit(2, map), sheet, n, target.next) {
-        VariableRead::Is(field) => field,
-        VariableRead::Refused(refusal) => return ItemRead::Refused(refusal),
-    };
     let selects = has_bit(4, map);
-    let feature = match read_word_if(selects, sheet, partner.next) {
-        WordRead::Is(field) => field,
-        WordRead::Refused(refusal) => return ItemRead::Refused(refusal),
-    };
-    let child = match read_variable_if(selects, sheet, n, feature.next) {
-        VariableRead::Is(field) => field,
-        VariableRead::Refused(refusal) => return ItemRead::Refused(refusal),
-    };
-    let label = match read_word_if(has_bit(8, map), sheet, child.next) {
-        WordRead::Is(field) => field,
-        WordRead::Refused(refusal) => return ItemRead::Refused(refusal),
-    };
-    let j = target.value;
-    let p = partner.value;
-    let k = child.value;
-    let next = label.next;
-    let x = Item {
-        map: map,
-        subject: subject,
-        target: j,
-        partner: p,
-        feature: Feature(feature.value),
-        child: k,
-        label: Label(label.value),
-    };
-    ItemRead::Is(x, next)
+    let target = read_variable_if(has_bit(1, map), sheet, n, from)?;
+    let partner = read_variable_if(has_bit(2, map), sheet, n, target.next)?;
+    let feature = read_word_if(selects, sheet, partner.next)?;
+    let child = read_variable_if(selects, sheet, n, feature.next)?;
+    let label = read_word_if(has_bit(8, map), sheet, child.next)?;
+    Ok(Field {
+        value: Item {
+            map,
+            subject,
+            target: target.value,
+            partner: partner.value,
+            feature: Feature(feature.value),
+            child: child.value,
+            label: Label(label.value),
+        },
+        next: label.next,
+    })
 }
 
 // The item at a cursor, over n variables.
 #[tactic(auto, unfolding(crate::specs::Items::item_at))]
-pub fn read_item(place: Place, sheet: &[u8], n: u8, from: Cursor) -> ItemRead
+pub fn read_item(place: Place, sheet: &[u8], n: u8, from: Cursor) -> Read<Item>
     ensures { result ≡ item_at place sheet.now n from }
 {
-    let map = match read_map(place, sheet, from) {
-        ByteRead::Is(field) => field,
-        ByteRead::Refused(refusal) => return ItemRead::Refused(refusal),
-    };
-    match read_variable(sheet, n, map.next) {
-        VariableRead::Is(subject) => read_fields(sheet, n, map.value, subject.value, subject.next),
-        VariableRead::Refused(refusal) => ItemRead::Refused(refusal),
-    }
+    let map = read_map(place, sheet, from)?;
+    let subject = read_variable(sheet, n, map.next)?;
+    read_fields(sheet, n, map.value, subject.value, subject.next)
 }
 
 // A record at a cursor.
-pub fn read_record(sheet: &[u8], n: u8, from: Cursor) -> ItemRead
+pub fn read_record(sheet: &[u8], n: u8, from: Cursor) -> Read<Item>
     ensures { result ≡ item_at Place.Record sheet.now n from }
 {
     read_item(Place::Record, sheet, n, from)
@@ -222,30 +176,30 @@ pub fn question_of(x: Item) -> Question
 
 // A question at a cursor.
 #[tactic(auto, unfolding(crate::specs::Items::question_at))]
-pub fn read_question(sheet: &[u8], n: u8, from: Cursor) -> QuestionRead
+pub fn read_question(sheet: &[u8], n: u8, from: Cursor) -> Read<Question>
     ensures { result ≡ question_at sheet.now n from }
 {
-    match read_item(Place::Question, sheet, n, from) {
-        ItemRead::Is(x, next) => QuestionRead::Asks(question_of(x), next),
-        ItemRead::Refused(refusal) => QuestionRead::Refused(refusal),
-    }
+    let item = read_item(Place::Question, sheet, n, from)?;
+    Ok(Field {
+        value: question_of(item.value),
+        next: item.next,
+    })
 }
 
 // Where so many items from a cursor on end.
-#[tactic(auto, using(crate::proofs::Runs::run_over, crate::proofs::Runs::run_on, crate::proofs::Runs::run_refused))]
-pub fn items_end(count: u16, place: Place, sheet: &[u8], n: u8, from: Cursor) -> EndRead
+#[tactic(auto, using(crate::proofs::Runs::run_over, crate::proofs::Runs::run_step, crate::proofs::Runs::run_refused))]
+pub fn items_end(
+    count: u16,
+    place: Place,
+    sheet: &[u8],
+    n: u8,
+    from: Cursor,
+) -> Result<Cursor, Refusal>
     ensures { result ≡ items_end count place sheet.now n from }
 {
-    let mut left = count;
     let mut at = from;
-    while 0 < left {
-        match read_item(place, sheet, n, at) {
-            ItemRead::Is(_, next) => {
-                at = next;
-            }
-            ItemRead::Refused(refusal) => return EndRead::Refused(refusal),
-        }
-        left -= 1;
+    for _ in 0..count {
+        at = read_item(place, sheet, n, at)?.next;
     }
-    EndRead::At(at)
+    Ok(at)
 }

@@ -188,7 +188,8 @@ module _ {n : ℕ} {st : List Statement} {spreads : List Spread} (stand : Labels
             (λ p. let e = same_true x i p in
             rw (e, get_or-set_same spreads i more Spread.Nothing (omega arith)) (noted_at a (stand.at i (rw (← e) h))))
             (λ p. let d = same_false x i p in
-            rw (get_or-set_other spreads i x more Spread.Nothing d) (kept_at _ (stand.at x h) λ b q. absurd (d (ap subject_of q))));
+            rw (get_or-set_other spreads i x more Spread.Nothing d)
+            (kept_at _ (stand.at x h) λ b q. absurd (d (ap subject_of q))));
       }
 
 -- what is told by the spreads of the variables

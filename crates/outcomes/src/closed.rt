@@ -6,7 +6,7 @@ ghost use Rattle.outcomes.specs.Closed.{outcome_by};
 
 use crate::outcomes::Outcome;
 use answers::count_facts;
-use rules::Verdict;
+use rules::{Kind, Verdict};
 
 // How many facts the table has of each kind, or the pair that clashes in it.
 #[tactic(auto, using(crate::proofs::Counted::few_facts))]
@@ -17,8 +17,8 @@ pub fn outcome_of(verdict: Verdict, closed: &[u8], n: usize) -> Outcome
     match verdict {
         Verdict::Clash(i, j) => Outcome::Clash(i, j),
         Verdict::Consistent => {
-            let orderings = count_facts(closed, n, false);
-            let compatibilities = count_facts(closed, n, true);
+            let orderings = count_facts(closed, n, Kind::Ordered);
+            let compatibilities = count_facts(closed, n, Kind::Compatible);
             Outcome::Consistent(orderings as u16, compatibilities as u16)
         }
     }

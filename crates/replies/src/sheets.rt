@@ -2,77 +2,29 @@
 ghost use Rattle.std.specs.Prelude.{map, ◌≡◌};
 ghost use Rattle.sheet.specs.Sheets.{sheet_of};
 ghost use Rattle.rules.specs.Replies.{replies_of, reply_number};
-ghost use Rattle.closure.specs.Trials.{Restored};
+ghost use Rattle.closure.specs.Trials.{variables_in, Restored};
 ghost use Rattle.replies.specs.Replying.{Replying, Held, Asked};
 
 use crate::reply::reply;
-use fields::{Cursor, MOST_VARIABLES};
-use headers::Header;
-use items::{QuestionRead, read_question};
-use labels::Spread;
-use selections::PLACES;
-use table::ROOM;
+use closure::{Closed, Trial};
+use items::read_question;
+use sheet::Accepted;
 
-// Writes one reply a question; the second table and the groups are then as they were.
-pub fn reply_all(
-    sheet: &[u8],
-    header: Header,
-    asked: Cursor,
-    closed: &[u8],
-    t: &mut [u8],
-    spread: Spread,
-    subjects: &[u8],
-    features: &[u16],
-    children: &[u8],
-    starts: &[usize; MOST_VARIABLES],
-    ends: &mut [usize; MOST_VARIABLES],
-    group_features: &mut [u16; PLACES],
-    group_children: &mut [u8; PLACES],
-    counts: &[u8; MOST_VARIABLES],
-    labels: &[u16; MOST_VARIABLES],
-    queue: &mut [u16; ROOM],
-    replies: &mut [u8],
-)
-    requires asked { Asked sheet.now header asked replies.old }
-    requires replying { Replying header.variables closed.now t.old queue.old subjects.now features.now children.now
-        starts.now ends.old group_features.old group_children.old counts.now labels.now spread }
-    requires held { Held header.variables closed.now subjects.now features.now children.now starts.now ends.old
-        group_features.old group_children.old counts.now labels.now (sheet_of sheet.now).stated }
+// Writes one reply a question; the trial is then as it was.
+pub fn reply_all(sheet: &[u8], accepted: Accepted, closed: &Closed, trial: &mut Trial, replies: &mut [u8])
+    requires asked { Asked sheet.now accepted replies.old }
+    requires sizes { variables_in trial.old ≡ accepted.header.variables }
+    requires replying { Replying closed.now trial.old }
+    requires held { Held accepted.header.variables closed.now trial.old.groups (sheet_of sheet.now).stated }
     ensures written { replies.new ≡ map reply_number (replies_of (sheet_of sheet.now)) }
-    ensures copied { t.new ≡ closed.now }
-    ensures restored { Restored ends.old group_features.old group_children.old ends.new group_features.new
-        group_children.new queue.new }
+    ensures restored { Restored trial.old trial.new }
 {
-    let n = header.variables;
-    let mut left = header.questions;
-    let mut cursor = asked;
-    let mut k: usize = 0;
-    while 0 < left {
-        match read_question(sheet, n, cursor) {
-            QuestionRead::Asks(question, next) => {
-                let answer = reply(
-                    closed,
-                    t,
-                    n as usize,
-                    spread,
-                    question,
-                    subjects,
-                    features,
-                    children,
-                    starts,
-                    ends,
-                    group_features,
-                    group_children,
-                    counts,
-                    labels,
-                    queue,
-                );
-                replies[k] = u8::from(answer);
-                cursor = next;
-                left -= 1;
-                k += 1;
-            }
-            QuestionRead::Refused(_) => return,
-        }
+    let mut cursor = accepted.asked;
+    for place in replies.iter_mut() {
+        let Ok(question) = read_question(sheet, accepted.header.variables, cursor) else {
+            return;
+        };
+        *place = u8::from(reply(closed, trial, question.value));
+        cursor = question.next;
     }
 }

@@ -7,7 +7,8 @@ use Rattle.items.specs.declared.items.Statement.{Statement}
 use Rattle.rules.specs.declared.clashes.Clash.{Clash}
 use Rattle.rules.specs.Connectives.{◌and◌}
 use Rattle.rules.specs.Stated.{some_labelling}
-use Rattle.rules.specs.Facts.{compatible, Relation}
+use Rattle.rules.specs.declared.kinds.Kind.{Kind}
+use Rattle.rules.specs.Facts.{Relation}
 use Rattle.rules.specs.Derived.{facts_of}
 
 -- a(i) and b(j) are stated, and a is not b
@@ -16,7 +17,7 @@ labels_differ st i j = some_labelling st λ x a. same i x and some_labelling st 
 
 -- F5 applies to i and j
 unfoldable pub clashes_at : List Statement → Relation → ℕ → ℕ → Bool
-clashes_at st r i j = r compatible i j and labels_differ st i j
+clashes_at st r i j = r Kind.Compatible i j and labels_differ st i j
 
 -- the clash of i and j
 abbrev pub clash_between : ℕ → ℕ → Clash

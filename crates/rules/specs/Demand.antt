@@ -5,7 +5,8 @@ use Rattle.items.specs.declared.items.Statement.{Statement}
 use Rattle.items.specs.Questions.{Query, holds}
 use Rattle.sheet.specs.Sheets.{Sheet}
 use Rattle.rules.specs.declared.replies.Reply.{Reply}
-use Rattle.rules.specs.Facts.{Kind, Relation, Holds, Into, Within, Closed}
+use Rattle.rules.specs.declared.kinds.Kind.{Kind}
+use Rattle.rules.specs.Facts.{Relation, Holds, Into, Within, Closed}
 use Rattle.rules.specs.Tables.{Shape}
 use Rattle.rules.specs.Derived.{derived, facts_of}
 use Rattle.rules.specs.Clashes.{clash_between, clashes_at, clash_of}

@@ -1,21 +1,23 @@
 -- Every statement and question of a sheet names variables below n, and a question is the one statement of its item.
+use Rattle.std.specs.Prelude.{Result, Ok, Err}
 use Prim.Native.Nat.{ℕ, zero, suc}
 use mathlib.Core.Bool.{Bool, true, false}
 use mathlib.Core.List.{List, [], ◌∷◌, ◌++◌, map}
 use mathlib.Core.Path.{◌≡◌, refl}
 use Rattle.fields.specs.declared.numbers.Cursor.{Cursor}
 use Rattle.fields.specs.declared.refusals.Place.{Place}
+use Rattle.fields.specs.declared.refusals.Refusal.{Refusal}
+use Rattle.fields.specs.Fields.{then_value}
 use Rattle.fields.specs.Tests.{pick, has, same}
-use Rattle.fields.proofs.Chains.{Of, either}
+use Rattle.fields.proofs.Chains.{Of, either, after_field}
 use Rattle.items.specs.declared.items.Item.{Item}
 use Rattle.items.specs.declared.items.Statement.{Statement}
 use Rattle.items.specs.Items.{items_of}
 use Rattle.items.specs.Statements.{bit_of, stated_if, statements_of, statement_of, Names, AllName}
 use Rattle.items.specs.Questions.{holds, question_of, query_of, AllAsk}
-use Rattle.items.proofs.Chains.{after_item}
 use Rattle.items.proofs.Lawful.{Reads, one_bit, item_spans}
-use Rattle.sheet.specs.declared.whole.SheetRead.{SheetRead}
-use Rattle.sheet.specs.Sheets.{Named, sheet, then_sheet, read_sheet, all_statements, asks, sheet_at, sheet_of}
+use Rattle.sheet.specs.declared.whole.Accepted.{Accepted}
+use Rattle.sheet.specs.Sheets.{Named, sheet, read_sheet, all_statements, asks, sheet_at, sheet_of}
 
 both : {n : ℕ} {xs ys : List Statement} → Of (AllName n) xs → Of (AllName n) ys → Of (AllName n) (xs ++ ys)
 both {xs = []} p q = q
@@ -57,24 +59,24 @@ module _ (s : List ℕ) (n : ℕ) where
   unfolding items_of
   records_name zero c = record { holds = tt }
   records_name (suc k) c =
-      after_item (item_spans Place.Record s n c) (λ q h. record { holds = tt }) λ x next r.
+      after_field (item_spans Place.Record s n c) (λ q h. record { holds = tt }) λ x next r.
       record { holds = (both (record_names x r) (record { holds = (records_name k next).holds })).holds }
 
   questions_name : (k : ℕ) (c : Cursor) → Of (λ xs. AllAsk n (map asks xs)) (items_of k Place.Question s n c)
   unfolding items_of question_of
   questions_name zero c = record { holds = tt }
   questions_name (suc k) c =
-      after_item (item_spans Place.Question s n c) (λ q h. record { holds = tt }) λ x next r.
+      after_field (item_spans Place.Question s n c) (λ q h. record { holds = tt }) λ x next r.
       record { holds = ((statement_names x r).holds, (questions_name k next).holds) }
 
 pub sheet_named : (s : List ℕ) → Named (sheet_of s)
 unfolding sheet_of sheet_at
 sheet_named s = go (read_sheet s)
   where
-    go : (r : SheetRead) → Named (then_sheet r (λ q. sheet 0 [] []) (sheet_at s))
-    go (SheetRead.Accepted h asked) =
+    go : (r : Result Accepted Refusal) → Named (then_value r (λ q. sheet 0 [] []) (sheet_at s))
+    go (Ok a) =
         record {
-          stated = (records_name s h.variables h.records h.first).holds;
-          asked = (questions_name s h.variables h.questions asked).holds;
+          stated = (records_name s a.header.variables a.header.records a.header.first).holds;
+          asked = (questions_name s a.header.variables a.header.questions a.asked).holds;
         }
-    go (SheetRead.Refused r) = record { stated = tt; asked = tt }
+    go (Err r) = record { stated = tt; asked = tt }

@@ -12,7 +12,8 @@ use Rattle.items.specs.declared.items.Item.{Item}
 use Rattle.items.specs.declared.items.Statement.{Statement}
 use Rattle.items.specs.Statements.{Names, AllName, stated_if, statements_of}
 use Rattle.rules.specs.Stated.{ordering, compatibility, selection, labelling}
-use Rattle.rules.specs.Facts.{Kind, ordered, compatible, fact}
+use Rattle.rules.specs.declared.kinds.Kind.{Kind}
+use Rattle.rules.specs.Facts.{fact}
 use Rattle.rules.proofs.Lists.{all_split}
 use Rattle.selections.proofs.Stands.{more_selections, more_selections_stand, other_than_selection}
 use Rattle.labels.specs.Labels.{NoLabelling, counts_with, labels_with}
@@ -82,8 +83,8 @@ module _ {x y : Lists} where
         }
 
     no_label : (kind : Kind) → NoLabelling (fact kind i j)
-    no_label ordered = tt
-    no_label compatible = tt
+    no_label Kind.Ordered = tt
+    no_label Kind.Compatible = tt
 
     pair_stand : (n : ℕ) (st : List Statement) → AllName n (fact kind i j ∷ []) → Stand n st x
         → Stand n (st ++ (fact kind i j ∷ [])) y
@@ -200,17 +201,17 @@ module _ {x y : Lists} where
 
   -- a statement of each kind
   module _ {q : Statement} (may : Putting (q ∷ []) (pairs_in q) (selections_in q) x) where
-    pub ordering_put : (i j : ℕ) → q ≡ ordering i j → PairBehind ordered i j x y → SameSelections x y
+    pub ordering_put : (i j : ℕ) → q ≡ ordering i j → PairBehind Kind.Ordered i j x y → SameSelections x y
         → SameLabels x y → Put (q ∷ []) (pairs_in q) (selections_in q) x y
     ordering_put i j e p s l =
         let may' = putting_as e may in
-        put_same e (one_pair ordered i j may'.sized (omega (arith, may'.pairs_fit)) p s l)
+        put_same e (one_pair Kind.Ordered i j may'.sized (omega (arith, may'.pairs_fit)) p s l)
 
-    pub compatibility_put : (i j : ℕ) → q ≡ compatibility i j → PairBehind compatible i j x y → SameSelections x y
+    pub compatibility_put : (i j : ℕ) → q ≡ compatibility i j → PairBehind Kind.Compatible i j x y → SameSelections x y
         → SameLabels x y → Put (q ∷ []) (pairs_in q) (selections_in q) x y
     compatibility_put i j e p s l =
         let may' = putting_as e may in
-        put_same e (one_pair compatible i j may'.sized (omega (arith, may'.pairs_fit)) p s l)
+        put_same e (one_pair Kind.Compatible i j may'.sized (omega (arith, may'.pairs_fit)) p s l)
 
     pub selection_put : (i f j : ℕ) → q ≡ selection i f j → SamePairs x y → SelectionBehind i f j x y
         → SameLabels x y → Put (q ∷ []) (pairs_in q) (selections_in q) x y

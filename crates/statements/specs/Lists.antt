@@ -1,11 +1,11 @@
 -- The lists in which statements stand: pairs, selections and labels, as far as they are in use.
-use Rattle.std.specs.Prelude.{ℕ, ◌+◌, ◌*◌, ◌≤◌, length, take, replicate, List, ◌++◌, ◌≡◌}
+use Rattle.std.specs.Prelude.{ℕ, ◌+◌, ◌*◌, ◌≤◌, length, take, replicate, List, ◌++◌, ◌≡◌, Ok}
 use Rattle.fields.specs.declared.numbers.Cursor.{Cursor}
 use Rattle.fields.specs.Limits.{most_variables, most_items}
 use Rattle.headers.specs.declared.headers.Header.{Header}
 use Rattle.items.specs.declared.items.Statement.{Statement}
 use Rattle.items.specs.Statements.{AllName}
-use Rattle.sheet.specs.declared.whole.SheetRead.{SheetRead}
+use Rattle.sheet.specs.declared.whole.Accepted.{Accepted}
 use Rattle.sheet.specs.Sheets.{read_sheet}
 use Rattle.selections.specs.Listed.{Selections, Listed}
 use Rattle.selections.specs.Stands.{SelectionsStand}
@@ -98,9 +98,8 @@ pub record Put (added : List Statement) (pairs selections : ℕ) (x y : Lists) :
   pub sized : Sized y
 
 -- an accepted sheet, and lists in which nothing stands
-pub record Gathering (s : List ℕ) (h : Header) (x : Lists) : Type 0 where
-  pub asked : Cursor
-  pub accepted : read_sheet s ≡ SheetRead.Accepted h asked
+pub record Gathering (s : List ℕ) (a : Accepted) (x : Lists) : Type 0 where
+  pub accepted : read_sheet s ≡ Ok a
   pub sized : Sized x
   pub no_counts : x.counts ≡ replicate most_variables 0
   pub labels_size : length x.labels ≡ most_variables

@@ -4,14 +4,14 @@ ghost use Rattle.statements.specs.Lists.{lists, Gathering, Gathered};
 
 use crate::lists::{PAIRS, SELECTIONS, Sizes, put_record};
 use fields::MOST_VARIABLES;
-use headers::Header;
-use items::{ItemRead, read_record};
+use items::read_record;
+use sheet::Accepted;
 
 // Puts what the records of an accepted sheet state into lists, in which nothing stands yet: how many pairs and
 // selections there are.
 pub fn gather(
     sheet: &[u8],
-    header: Header,
+    accepted: Accepted,
     cells: &mut [u8; PAIRS],
     lefts: &mut [u8; PAIRS],
     rights: &mut [u8; PAIRS],
@@ -21,30 +21,36 @@ pub fn gather(
     counts: &mut [u8; MOST_VARIABLES],
     labels: &mut [u16; MOST_VARIABLES],
 ) -> Sizes
-    requires { Gathering sheet.now header
+    requires { Gathering sheet.now accepted
         (lists 0 0 cells.old lefts.old rights.old subjects.old features.old children.old counts.old labels.old) }
-    ensures { Gathered header.variables (sheet_of sheet.now).stated
+    ensures { Gathered accepted.header.variables (sheet_of sheet.now).stated
         (lists result.pairs result.selections cells.new lefts.new rights.new subjects.new features.new children.new
         counts.new labels.new) }
 {
+    let header = accepted.header;
     let n = header.variables;
-    let mut left = header.records;
     let mut cursor = header.first;
     let mut sizes = Sizes {
         pairs: 0,
         selections: 0,
     };
-    while 0 < left {
-        match read_record(sheet, n, cursor) {
-            ItemRead::Is(x, next) => {
-                sizes = put_record(
-                    x, cells, lefts, rights, subjects, features, children, counts, labels, sizes,
-                );
-                cursor = next;
-                left -= 1;
-            }
-            ItemRead::Refused(_) => return sizes,
-        }
+    for _ in 0..header.records {
+        let Ok(record) = read_record(sheet, n, cursor) else {
+            return sizes;
+        };
+        sizes = put_record(
+            record.value,
+            cells,
+            lefts,
+            rights,
+            subjects,
+            features,
+            children,
+            counts,
+            labels,
+            sizes,
+        );
+        cursor = record.next;
     }
     sizes
 }

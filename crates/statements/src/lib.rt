@@ -7,4 +7,4 @@ mod stated;
 
 pub use gathering::gather;
 pub use lists::{PAIRS, SELECTIONS, Sizes};
-pub use stated::{StatedLabel, stated_label};
+pub use stated::stated_label;

@@ -2,7 +2,7 @@
 use Rattle.std.specs.Prelude.{ℕ, ◌+◌, ◌*◌, ◌<◌, ◌≤◌, length, get_or, List, ◌≡◌}
 use Rattle.fields.specs.Fields.{variable}
 use Rattle.fields.specs.Limits.{most_variables}
-use Rattle.rules.specs.Facts.{ordered, compatible}
+use Rattle.rules.specs.declared.kinds.Kind.{Kind}
 use Rattle.rules.specs.Tables.{facts, Shape, count_facts}
 use Rattle.table.specs.declared.queue.Entry.{Entry}
 
@@ -44,7 +44,7 @@ state table queue = record { table = table; queue = queue }
 
 -- how many facts a table has, of both kinds
 unfoldable pub fact_count : ℕ → List ℕ → ℕ
-fact_count n t = count_facts n (facts n t) ordered + count_facts n (facts n t) compatible
+fact_count n t = count_facts n (facts n t) Kind.Ordered + count_facts n (facts n t) Kind.Compatible
 
 -- the queue has a place for each fact that is not in the table yet
 pub record Ready (n : ℕ) (s : State) : Type 0 where

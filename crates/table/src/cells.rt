@@ -1,23 +1,20 @@
 // What a cell says: 1 for ≤ plus 2 for ~.
 ghost use Rattle.std.specs.Prelude.{◌≡◌};
-ghost use Rattle.rules.specs.Facts.{ordered, compatible};
 ghost use Rattle.rules.specs.Tables.{says};
 ghost use Rattle.table.specs.Cells.{is_lacking};
 
-// Whether a cell says ≤.
-#[tactic(auto, using(crate::proofs::Saying::by_number))]
-pub fn says_ordered(cell: u8) -> bool
-    ensures { result ≡ says ordered cell }
-{
-    cell == 1 || cell == 3
-}
+use rules::Kind;
 
-// Whether a cell says ~.
-#[tactic(auto, unfolding(rules::specs::Tables::says, fields::specs::Tests::less))]
-pub fn says_compatible(cell: u8) -> bool
-    ensures { result ≡ says compatible cell }
+// Whether a cell says a fact of the kind.
+#[inline]
+#[tactic(auto, using(crate::proofs::Saying::by_number))]
+pub fn says(kind: Kind, cell: u8) -> bool
+    ensures { result ≡ says kind cell }
 {
-    1 < cell
+    match kind {
+        Kind::Ordered => cell == 1 || cell == 3,
+        Kind::Compatible => 1 < cell,
+    }
 }
 
 // Whether w says something that a cell does not.

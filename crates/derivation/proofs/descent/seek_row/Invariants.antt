@@ -4,4 +4,4 @@ use Rattle.derivation.proofs.descent.seek_row.Given as goal
 -- no row before this one has anything to tell
 abbrev pub invariant-loop-at : goal.invariant-loop-at
 invariant-loop-at l =
-    NoRowNew l.table.n l.table.cells.now l.groups l.w l.places.start l.places.end l.fn.rows.start l.at
+    NoRowNew l.table.n l.table.cells.now l.groups l.w l.fn.places.start l.fn.places.end l.fn.rows.start l.at

@@ -4,12 +4,12 @@ use Rattle.derivation.proofs.Descending.{ToldUpto}
 use Rattle.derivation.proofs.descent.tell_all.Given as goal
 
 -- the children at f before this place are told of
-abbrev pub invariant-loop-from : goal.invariant-loop-from
-invariant-loop-from l =
+abbrev pub invariant-loop-at : goal.invariant-loop-at
+invariant-loop-at l =
     record {
       told : ToldUpto l.fn.growth.table.n l.groups l.w l.f.0 l.i l.v (state_of l.fn.growth) (state_of l.growth) l.from;
       same : IsSame l.fn.growth l.growth;
     }
 
-abbrev pub decreases-loop-from : goal.decreases-loop-from
-decreases-loop-from l = l.group.end - l.from
+abbrev pub decreases-loop-at : goal.decreases-loop-at
+decreases-loop-at l = l.group.end - l.from
