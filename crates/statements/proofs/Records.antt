@@ -1,6 +1,7 @@
 -- The statements of the records read so far stand in the lists.
 use Prim.Native.Nat.{ℕ, ◌+◌, ◌*◌, ◌-◌, ◌<◌, ◌≤◌}
 use Rattle.std.specs.Prelude.{Ok, Err}
+use lib.ListN.{length, replicate}
 use mathlib.Core.List.{List, [], ◌++◌, append-nil, append_assoc}
 use mathlib.Core.Path.{◌≡◌, sym, ap, subst, ◌∙◌}
 use native.Mathlib.Omega.{arith}
@@ -9,7 +10,6 @@ use Rattle.fields.specs.declared.numbers.Cursor.{Cursor}
 use Rattle.fields.specs.declared.refusals.Place.{Place}
 use Rattle.fields.specs.declared.refusals.Refusal.{Refusal}
 use Rattle.fields.specs.Limits.{most_variables, most_items}
-use Rattle.headers.specs.declared.headers.Header.{Header}
 use Rattle.items.specs.declared.items.Item.{Item}
 use Rattle.items.specs.declared.items.Statement.{Statement}
 use Rattle.items.specs.Items.{item_at, items_end, items_of}
@@ -22,7 +22,9 @@ use Rattle.rules.proofs.Lists.{all_split, all_name_more}
 use Rattle.selections.proofs.Stands.{no_selections, no_selections_stand}
 use Rattle.labels.proofs.Kept.{no_labels}
 use Rattle.derivation.proofs.Stands.{no_pairs, no_pairs_stand}
-use Rattle.statements.specs.Lists.{Lists, Stand, Sized, Putting, Put, Gathering, Gathered, pairs_room}
+use Rattle.labels.specs.declared.spread.Spread.{Spread}
+use Rattle.statements.specs.declared.lists.Lists.{Lists}
+use Rattle.statements.specs.Lists.{Stand, Putting, Put, Gathering, pairs_room}
 
 -- with so many records left to read, from a cursor on
 pub record Gathers (s : List ℕ) (n left : ℕ) (cursor : Cursor) (x : Lists) : Type 0 where
@@ -33,15 +35,15 @@ pub record Gathers (s : List ℕ) (n left : ℕ) (cursor : Cursor) (x : Lists) :
   pub rest : (sheet_of s).stated ≡ done ++ all_statements (items_of left Place.Record s n cursor)
   pub end : Cursor
   pub readable : items_end left Place.Record s n cursor ≡ Ok end
-  pub sized : Sized x
-  pub pairs_fit : x.pairs + 2 * left ≤ pairs_room
-  pub selections_room : x.selections + left ≤ most_items
+  pub pairs_fit : length x.pairs.items + 2 * left ≤ pairs_room
+  pub selections_room : length x.selections.items + left ≤ most_items
 
 -- before the first record
-pub gathers_start : (s : List ℕ) (a : Accepted) (x : Lists) → x.pairs ≡ 0 → x.selections ≡ 0 → Gathering s a x
+pub gathers_start : (s : List ℕ) (a : Accepted) (x : Lists) → x.pairs.items ≡ [] → x.selections.items ≡ []
+    → x.labels.spreads ≡ replicate most_variables Spread.Nothing → Gathering s a
     → Gathers s a.header.variables a.header.records a.header.first x
 unfolding sheet_at
-gathers_start s a x no_pair no_selection g =
+gathers_start s a x no_pair no_selection no_label g =
     let read = accepted_read s a g.accepted in
     let is = accepted_sheet s a g.accepted in
     let few = read.heads.few in
@@ -56,14 +58,13 @@ gathers_start s a x no_pair no_selection g =
             pairs_stand = rw no_pair no_pairs_stand;
             lawful_selections = rw no_selection (no_selections _ few);
             selections_stand = rw no_selection (no_selections_stand _);
-            labelled = rw g.no_counts (no_labels _ x.labels few g.labels_size);
+            labelled = rw no_label (no_labels _ few);
           };
       rest = ap (λ y. y.stated) is;
       end = a.asked;
       readable = read.records_end;
-      sized = g.sized;
-      pairs_fit = omega (arith, no_pair, records);
-      selections_room = omega (arith, no_selection, records);
+      pairs_fit = rw no_pair (omega (arith, records));
+      selections_room = rw no_selection (omega (arith, records));
     }
 
 -- one record
@@ -84,7 +85,6 @@ module _ {s : List ℕ} {n left : ℕ} {cursor : Cursor} {x : Lists} (g : Gather
     gathers_put =
         record {
           named = all_name_more g.few (statements_of f.value) item_named;
-          sized = g.sized;
           pairs_fit = omega (arith, more, g.pairs_fit);
           selections_room = omega (arith, more, g.selections_room);
         }
@@ -99,7 +99,6 @@ module _ {s : List ℕ} {n left : ℕ} {cursor : Cursor} {x : Lists} (g : Gather
           rest = split ∙ sym (append_assoc g.done (statements_of f.value) _);
           end = g.end;
           readable = sym (run_on Place.Record s n cursor left f more read) ∙ g.readable;
-          sized = p.sized;
           pairs_fit = omega (arith, more, g.pairs_fit, p.more_pairs);
           selections_room = omega (arith, more, g.selections_room, p.more_selections);
         }
@@ -109,16 +108,8 @@ module _ {s : List ℕ} {n left : ℕ} {cursor : Cursor} {x : Lists} (g : Gather
 
 -- behind the last record
 pub gathers_end : {s : List ℕ} {n left : ℕ} {cursor : Cursor} {x : Lists} → Gathers s n left cursor x → left ≤ 0
-    → Gathered n (sheet_of s).stated x
+    → Stand n (sheet_of s).stated x
 gathers_end {s} {n} {left} {cursor} g over =
     let e = g.rest ∙ ap (λ y. g.done ++ all_statements y) (items_over Place.Record s n cursor left over)
     ∙ append-nil g.done in
-    record {
-      stand = rw e g.stand;
-      cells_hold = omega (arith, g.pairs_fit, g.sized.cells);
-      lefts_hold = omega (arith, g.pairs_fit, g.sized.lefts);
-      rights_hold = omega (arith, g.pairs_fit, g.sized.rights);
-      subjects_hold = omega (arith, g.selections_room, g.sized.subjects);
-      features_hold = omega (arith, g.selections_room, g.sized.features);
-      children_hold = omega (arith, g.selections_room, g.sized.children);
-    }
+    rw e g.stand

@@ -1,10 +1,7 @@
--- The records read so far stand in the lists, and the others are left to read.
+-- The records read so far stand in the lists.
 use Rattle.std.proofs.Common.{◌-◌}
-use Rattle.statements.specs.Lists.{lists}
 use Rattle.statements.proofs.Records.{Gathers}
 use Rattle.statements.proofs.gathering.gather.Given as goal
 
 abbrev pub invariant-loop : goal.invariant-loop
-invariant-loop l =
-    Gathers l.sheet l.n (l.fn.accepted.header.records - l.counter) l.cursor
-    (lists l.sizes.pairs l.sizes.selections l.cells l.lefts l.rights l.subjects l.features l.children l.counts l.labels)
+invariant-loop l = Gathers l.sheet l.header.variables (l.header.records - l.counter) l.cursor l.lists
