@@ -7,11 +7,12 @@ use mathlib.Core.Logic.{◌⊎◌, inl, inr}
 use mathlib.Core.Path.{◌≡◌, sym, ap, ◌∙◌}
 use Rattle.std.specs.Prelude.{Option, is_some}
 use Rattle.fields.specs.declared.numbers.Feature.{Feature}
+use Rattle.fields.specs.declared.numbers.Label.{Label}
 use Rattle.fields.specs.declared.numbers.Variable.{Variable}
 use Rattle.items.specs.declared.items.Statement.{Statement}
 use Rattle.items.specs.Statements.{Names}
 use Rattle.rules.specs.declared.clashes.Clash.{Clash}
-use Rattle.rules.specs.Stated.{selection}
+use Rattle.rules.specs.Stated.{selection, labelling}
 use Rattle.rules.specs.declared.kinds.Kind.{Kind}
 use Rattle.rules.specs.Facts.{fact}
 use Rattle.rules.specs.Tables.{facts}
@@ -27,8 +28,9 @@ use Rattle.selections.proofs.Stands.{other_than_selection}
 use Rattle.labels.specs.declared.spread.Spread.{Spread}
 use Rattle.labels.specs.Spreads.{spread_below, can_clash}
 use Rattle.labels.proofs.Skip.{skip}
-use Rattle.answers.specs.Clashes.{ClashTold}
+use Rattle.answers.specs.Clashes.{ClashTold, LabelClashTold}
 use Rattle.answers.proofs.OneLabel.{no_label}
+use Rattle.derivation.proofs.Descending.{to_size}
 use Rattle.derivation.proofs.Stands.{kind_cell, statement_pairs, fact_said, said_fact, no_subject}
 use Rattle.closure.specs.Trials.{Nothing, WithOne, before, last, Searched, Tried}
 use Rattle.closure.specs.Trials.{Standing, Consistent}
@@ -72,6 +74,10 @@ read_selection : {q : Statement} {i : Variable} {f : Feature} {j : Variable} {x 
     → x ≡ i.0 → q ≡ selection x f.0 j.0
 read_selection {f = f} {j = j} e g = e ∙ ap (λ k. selection k f.0 j.0) (sym g)
 
+read_label : {q : Statement} {i : Variable} {a : Label} {x : ℕ} → q ≡ Statement.Labelling i a → x ≡ i.0
+    → q ≡ labelling x a.0
+read_label {a = a} e g = e ∙ ap (λ k. labelling k a.0) (sym g)
+
 -- what each kind tells, of statements that stand in the arrays and do not clash
 module _ {n : ℕ} {closed : List ℕ} {groups : Groups} {spreads : List Spread} where
   pub fact_told : {r : Bool} (kind : Kind) (i j x y : ℕ) (q : Statement) → q ≡ fact kind i j → x ≡ i → y ≡ j
@@ -97,8 +103,20 @@ module _ {n : ℕ} {closed : List ℕ} {groups : Groups} {spreads : List Spread}
             searched;
       })
 
+  pub label_told : {m : ℕ} {r : Bool} {i : Variable} {a : Label} (x : ℕ) (q : Statement) → m ≡ n
+      → q ≡ Statement.Labelling i a → x ≡ i.0 → LabelClashTold m closed spreads x a.0 r
+      → Tried n (Consistent n closed groups spreads) q r
+  label_told {r = r} {a = a} x q same d g found =
+      let e = read_label d g in
+      let told = to_size (λ z. LabelClashTold z closed spreads x a.0 r) same found in
+      rw e (record {
+        answer = λ st consistent.
+            let stands = consistent.stands in
+            told.told st stands.labelled stands.names stands.derives consistent.clear;
+      })
+
   -- and where nothing is tried
-  pub skip_told : (q : Statement) → Names n q → can_clash (spread_below n spreads) q ≡ false
+  skip_told : (q : Statement) → Names n q → can_clash (spread_below n spreads) q ≡ false
       → Tried n (Consistent n closed groups spreads) q false
   skip_told q names e =
       record {
@@ -106,6 +124,10 @@ module _ {n : ℕ} {closed : List ℕ} {groups : Groups} {spreads : List Spread}
             let stands = consistent.stands in
             sym (skip stands.labelled q (all_with (Names n) st q stands.names names) e);
       }
+
+  pub skip_where : {m : ℕ} {spread : Spread} {r : Bool} (q : Statement) → m ≡ n → spread ≡ spread_below m spreads
+      → Names n q → r ≡ can_clash spread q → r ≡ false → Tried n (Consistent n closed groups spreads) q false
+  skip_where q same is names told p = skip_told q names (rw (← same, ← is) (sym told ∙ p))
 
 -- all statements that stand in the arrays: where they clash, they clash with q
 module _ {n : ℕ} {closed : List ℕ} {groups : Groups} {spreads : List Spread} {clash : Option Clash}

@@ -53,10 +53,11 @@ pub record Clear (n : ℕ) (t : List ℕ) (spreads : List Spread) (queue : List 
   pub clear : (st : List Statement) → LabelsStand n st spreads → (k : ℕ) → from ≤ k → k < upto
       → entry_clashes n t st (entry_at queue k) ≡ false
 
-module _ {n : ℕ} {t : List ℕ} {spreads : List Spread} {queue : List Entry} {from k : ℕ} where
-  pub clear_start : Clear n t spreads queue from from
-  clear_start = record { clear = λ st stand x h g. absurd (omega arith) }
+pub clear_start : {n : ℕ} {t : List ℕ} {spreads : List Spread} {queue : List Entry} {from : ℕ}
+    → Clear n t spreads queue from from
+clear_start = record { clear = λ st stand x h g. absurd (omega arith) }
 
+module _ {n : ℕ} {t : List ℕ} {spreads : List Spread} {queue : List Entry} {from k : ℕ} where
   -- one entry more to which it does not apply
   pub clear_next : {r : Bool} → Clear n t spreads queue from k → EntryTold n t spreads (entry_at queue k) r → r ≡ false
       → Clear n t spreads queue from (k + 1)

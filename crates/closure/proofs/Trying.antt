@@ -20,6 +20,7 @@ use Rattle.facts.proofs.Moving.{moves_then, ready_after}
 use Rattle.selections.specs.declared.grouped.Groups.{Groups}
 use Rattle.selections.specs.Groups.{Grouped}
 use Rattle.derivation.specs.Settled.{Handed, Starting, Settled}
+use Rattle.derivation.proofs.Descending.{to_size, at_size}
 use Rattle.derivation.proofs.Runs.{handed_on}
 use Rattle.closure.specs.Trials.{Trying, TryingFact, Tries, SubjectQueued}
 
@@ -83,6 +84,14 @@ module _ {n : ℕ} {t : List ℕ} {queue : List Entry} {groups : Groups} {w i j 
           queued = λ kind x y p. ⊎_elim inl (λ q. inr (from_start q)) (moves.queued kind x y p);
         }
 
+-- the run of the queue, of one number of variables or an equal one
+pub starting_at : {m n : ℕ} {s : State} {groups : Groups} → m ≡ n → Starting n s groups → Starting m s groups
+starting_at {s = s} {groups = groups} same = at_size (λ z. Starting z s groups) same
+
+pub settled_to : {m n : ℕ} {s s' : State} {groups : Groups} → m ≡ n → Settled m (Grouped groups) s s'
+    → Settled n (Grouped groups) s s'
+settled_to {s = s} {s' = s'} {groups = groups} same = to_size (λ z. Settled z (Grouped groups) s s') same
+
 -- an entry more
 module _ (queue queue' : List Entry) (x y : ℕ) (pushed : queue' ≡ queue ++ (entry x y ∷ [])) where
   push_size : length queue' ≡ length queue + 1
@@ -99,7 +108,9 @@ module _ (queue queue' : List Entry) (x y : ℕ) (pushed : queue' ≡ queue ++ (
       (λ c. rw (push_kept k c) (old k c))
 
   push_queued : Queued queue' 0 (length queue') x y
-  push_queued = wider (omega arith) (omega (arith, push_size)) (rw pushed (pushed_queued queue x y))
+  push_queued =
+      wider {from = length queue} {upto = length queue + 1} (omega arith) (omega (arith, push_size))
+      (rw pushed (pushed_queued queue x y))
 
   push_still : {i j : ℕ} → Queued queue 0 (length queue) i j → Queued queue' 0 (length queue') i j
   push_still q = wider (omega arith) (omega (arith, push_size)) (carried push_kept q)

@@ -78,7 +78,7 @@ module _ {n : ℕ} {t : List ℕ} {queue : List Entry} {groups : Groups} {i : �
             (others y e y' g away' b);
       }
 
-  pub selection_run : Starting n (state t queue₁) groups'
+  selection_run : Starting n (state t queue₁) groups'
   selection_run =
       record {
         running =
@@ -97,7 +97,7 @@ module _ {n : ℕ} {t : List ℕ} {queue : List Entry} {groups : Groups} {i : �
             (λ b. inr (apart kind x y p (same_false x i a) (same_false y i b))));
       }
 
-  pub selection_tried : {s : State} → Settled n new (state t queue₁) s
+  selection_tried : {s : State} → Settled n new (state t queue₁) s
       → Tries n (WithOne old i f j) Nothing t s.table s.queue (2 * n)
   selection_tried {s} settled =
       let ready = ready_after subject_ready settled.moves in
@@ -124,3 +124,12 @@ module _ {n : ℕ} {t : List ℕ} {queue : List Entry} {groups : Groups} {i : �
             ⊎_elim inl (λ q. inr (wider (omega (arith, queued.count)) (omega arith) q))
             (settled.moves.queued kind x y p);
       }
+
+  -- the same, where the call between says its own numbers, table and groups
+  module _ {m : ℕ} {t' : List ℕ} {groups'' : Groups} (same : m ≡ n) (table : t' ≡ t) (grouped : groups'' ≡ groups') where
+    pub selection_may_run : Starting m (state t' queue₁) groups''
+    selection_may_run = rw (same, table, grouped) selection_run
+
+    pub selection_is_tried : {s : State} → Settled m (Grouped groups'') (state t' queue₁) s
+        → Tries n (WithOne old i f j) Nothing t s.table s.queue (2 * n)
+    selection_is_tried settled = selection_tried (rw (same, table, grouped) at settled)

@@ -14,8 +14,8 @@ use Rattle.closure.specs.declared.closed.Closed.{Closed}
 
 -- lawful lists, and the size of a table for them
 pub record Lawful (n : ℕ) (pairs : List Pair) (list : List Selection) (size : ℕ) : Type 0 where
-  pub pairs : Pairs n pairs
-  pub selections : Selections n list
+  pub lawful_pairs : Pairs n pairs
+  pub lawful_selections : Selections n list
   pub square : size ≡ size_for n
 
 -- groups and a table, of lawful lists

@@ -2,6 +2,11 @@
 ghost use Rattle.std.specs.Prelude.{◌*◌, ◌≡◌};
 ghost use Rattle.facts.specs.Additions.{Said};
 ghost use Rattle.selections.specs.Groups.{Grouped};
+ghost use Rattle.closure.specs.Making.{variables_of, table_of, spreads_of, IsTold};
+ghost use Rattle.closure.specs.Trials.{variables_in, table_in, queue_in, IsKept, Restored};
+ghost use Rattle.closure.specs.Trials.{TryingFact, TryingSelection, Tries, Queueing};
+ghost use Rattle.closure.specs.Trials.{SubjectQueued, Searching, EntryTold, Sought, QueueTold, Searched};
+ghost use Rattle.closure.specs.Trials.{WithOne, Nothing, Standing, Consistent, Tried, Asking};
 
 use crate::closed::Closed;
 use answers::label_clashes;
@@ -31,12 +36,6 @@ fn clashes_at(table: &Table, labels: &Labels, entry: Entry) -> bool
 }
 
 impl Trial<'_> {
-    ghost use Rattle.closure.specs.Making.{variables_of, table_of, spreads_of, IsTold};
-    ghost use Rattle.closure.specs.Trials.{variables_in, table_in, queue_in, IsKept, Restored};
-    ghost use Rattle.closure.specs.Trials.{TryingFact, TryingSelection, Tries, Queueing};
-    ghost use Rattle.closure.specs.Trials.{SubjectQueued, Searching, EntryTold, Sought, QueueTold, Searched};
-    ghost use Rattle.closure.specs.Trials.{WithOne, Nothing, Standing, Consistent, Tried, Asking};
-
     // Adds what w says of i and j, and all that follows.
     fn try_fact(&mut self, w: u8, i: usize, j: usize)
         requires { TryingFact (variables_in self.old) (table_in self.old) (queue_in self.old) self.old.groups w i j }

@@ -11,6 +11,8 @@ use Rattle.fields.specs.declared.refusals.Refusal.{Refusal}
 use Rattle.items.specs.declared.items.Question.{Question}
 use Rattle.items.specs.Questions.{Query, query_of, Asks}
 use Rattle.items.specs.Items.{question_at}
+use Rattle.headers.specs.Headers.{reply_count}
+use Rattle.sheet.specs.declared.whole.Accepted.{Accepted}
 use Rattle.sheet.specs.Sheets.{sheet, sheet_of}
 use Rattle.rules.specs.declared.replies.Reply.{Reply}
 use Rattle.rules.specs.Replies.{reply_to, reply_number}
@@ -18,8 +20,8 @@ use Rattle.facts.proofs.Growing.{same_none, same_then}
 use Rattle.closure.specs.declared.closed.Closed.{Closed}
 use Rattle.closure.specs.declared.trials.Trial.{Trial}
 use Rattle.closure.specs.Trials.{variables_in, Restored}
-use Rattle.replies.specs.Replying.{Replying, Held, ReplyTold}
-use Rattle.replies.proofs.Answered.{Answers, question_named, answers_on, none_refused}
+use Rattle.replies.specs.Replying.{Replying, Held, ReplyTold, Asked}
+use Rattle.replies.proofs.Answered.{Answers, answers_start, question_named, answers_on, none_refused}
 
 -- a trial that is as it was
 pub restored_none : (x : Trial) → Restored x x
@@ -55,7 +57,7 @@ still_replying {c} {x} {y} r same =
     }
 
 -- what is told of the statements is told of the sheet
-module _ {s : List ℕ} {c : Closed} {x y : Trial} {n : ℕ} (sizes : variables_in x ≡ n)
+module _ (s : List ℕ) {c : Closed} {x y : Trial} {n : ℕ} (sizes : variables_in x ≡ n)
     (held : Held n c x.groups (sheet_of s).stated) (restored : Restored x y) (variables : (sheet_of s).n ≡ n) where
   pub from_sheet : {q : Query} {r : Reply}
       → ReplyTold (variables_in y) (Held (variables_in y) c y.groups) q r → r ≡ reply_to (sheet_of s) q
@@ -70,7 +72,16 @@ pub record Going (s : List ℕ) (n : ℕ) (x y : Trial) (cursor : Cursor) (k : �
   pub answers : Answers s n (length replies - k) cursor k replies
   pub restored : Restored x y
 
-module _ {s : List ℕ} {n : ℕ} {c : Closed} {x y : Trial} {cursor : Cursor} {k : ℕ} {replies : List ℕ}
+-- before the first question
+pub going_start : (s : List ℕ) (a : Accepted) (x : Trial) (replies : List ℕ) → Asked s a replies
+    → Going s a.header.variables x x a.asked 0 replies
+unfolding reply_count
+going_start s a x replies asked =
+    let all : length replies - 0 ≡ a.header.questions = omega (arith, asked.room) in
+    record { answers = rw all (answers_start s a replies asked); restored = restored_none x }
+
+-- one question
+module _ {s : List ℕ} {n : ℕ} {x y : Trial} {cursor : Cursor} {k : ℕ} {replies : List ℕ}
     (g : Going s n x y cursor k replies) (h : k < length replies) where
   pub question_asks : {q : Field Question} → variables_in x ≡ n → question_at s n cursor ≡ Ok q
       → Asks (variables_in y) (query_of q.value)
@@ -81,7 +92,7 @@ module _ {s : List ℕ} {n : ℕ} {c : Closed} {x y : Trial} {cursor : Cursor} {
   pub going_refused : {r : Refusal} → question_at s n cursor ≡ Err r → ⊥
   going_refused e = none_refused g.answers (omega arith) e
 
-  pub going_next : {z : Trial} {q : Field Question} {r : Reply} {v : ℕ} → variables_in x ≡ n
+  pub going_next : {c : Closed} {z : Trial} {q : Field Question} {r : Reply} {v : ℕ} → variables_in x ≡ n
       → Held n c x.groups (sheet_of s).stated → question_at s n cursor ≡ Ok q
       → ReplyTold (variables_in y) (Held (variables_in y) c y.groups) (query_of q.value) r → v ≡ reply_number r
       → Restored y z → Going s n x z q.next (k + 1) (set replies k v)
@@ -89,6 +100,6 @@ module _ {s : List ℕ} {n : ℕ} {c : Closed} {x y : Trial} {cursor : Cursor} {
       record {
         answers =
             answers_on g.answers (omega arith) read (omega (arith, length-set replies k v))
-            (from_sheet sizes held g.restored g.answers.variables told) number;
+            (from_sheet s sizes held g.restored g.answers.variables told) number;
         restored = restored_then g.restored restored;
       }

@@ -1,5 +1,5 @@
 -- The lists in which statements stand: pairs, selections and labels.
-use Rattle.std.specs.Prelude.{ℕ, ◌+◌, ◌*◌, ◌≤◌, length, List, [], ◌∷◌, ◌++◌, ◌≡◌, Ok}
+use Rattle.std.specs.Prelude.{ℕ, ◌+◌, ◌*◌, ◌≤◌, length, List, [], ◌∷◌, ◌++◌, Ok, ◌≡◌}
 use Rattle.fields.specs.Limits.{most_variables, most_items}
 use Rattle.items.specs.declared.items.Statement.{Statement}
 use Rattle.items.specs.Statements.{AllName}

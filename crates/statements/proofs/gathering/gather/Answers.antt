@@ -1,5 +1,5 @@
 -- One record after another is put into the lists.
-use Rattle.std.proofs.Common.{◌≡◌, ◌-◌, sym, arith}
+use Rattle.std.proofs.Common.{◌-◌, ◌≡◌, sym, arith}
 use Rattle.items.proofs.Runs.{fewer}
 use Rattle.statements.proofs.Records.{gathers_start, gathers_put, gathers_next, none_refused, gathers_end}
 use Rattle.statements.proofs.gathering.gather.Goals as goal
@@ -11,7 +11,8 @@ loop-init c =
     rw none_read (gathers_start _ _ c.empty-lists.result made.pairs made.selections made.labels c.requires)
 
 pub put_record-requires : goal.put_record-requires
-put_record-requires c = gathers_put c.loop.invariant (omega (arith, c.loop-test.true)) (sym c.in-Ok.ensures)
+put_record-requires c =
+    gathers_put c.loop.invariant (omega (arith, c.loop-test.true)) (sym c.in-Ok.ensures)
 
 pub loop-preserved : goal.loop-preserved
 loop-preserved c =

@@ -1,7 +1,8 @@
--- The records read so far stand in the lists.
+-- The records read so far stand in the lists, and the others are left to read.
 use Rattle.std.proofs.Common.{◌-◌}
 use Rattle.statements.proofs.Records.{Gathers}
 use Rattle.statements.proofs.gathering.gather.Given as goal
 
 abbrev pub invariant-loop : goal.invariant-loop
-invariant-loop l = Gathers l.sheet l.header.variables (l.header.records - l.counter) l.cursor l.lists
+invariant-loop l =
+    Gathers l.sheet l.header.variables (l.fn.accepted.header.records - l.counter) l.cursor l.lists

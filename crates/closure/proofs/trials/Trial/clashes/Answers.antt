@@ -1,0 +1,20 @@
+-- Where the statements clash, they clash with the question.
+use Rattle.answers.specs.Clashes.{ClashTold}
+use Rattle.derivation.proofs.Descending.{to_size}
+use Rattle.closure.specs.Making.{table_of, spreads_of}
+use Rattle.closure.proofs.Questions.{clash_stays, all_told}
+use Rattle.closure.proofs.trials.Trial.clashes.Goals as goal
+
+pub returns-then-is_some-clause-tried : goal.returns-then-is_some-clause-tried
+returns-then-is_some-clause-tried c =
+    let closed = c.args.closed.now in
+    clash_stays
+    (to_size (λ n. ClashTold n (table_of closed) (spreads_of closed) closed.clash) c.requires.sizes c.requires.told.clash)
+    _ c.requires.asking.names (cc)
+
+pub returns-clause-tried : goal.returns-clause-tried
+returns-clause-tried c =
+    let closed = c.args.closed.now in
+    all_told
+    (to_size (λ n. ClashTold n (table_of closed) (spreads_of closed) closed.clash) c.requires.sizes c.requires.told.clash)
+    _ c.requires.asking.names (cc) c.clashes_with_consistent.ensures.tried
