@@ -80,12 +80,13 @@ module _ (n : ℕ) (st : List Statement) (names : AllName n st) (i a : ℕ) (h :
   pub same_derived : derived st n ≡ derived (st ++ (labelling i a ∷ [])) n
   unfolding list_with_label
   same_derived =
-      is_derived n list_with_label (derived st n) (derived_shape n st) (fewer_closed no_more (derived_closed n st names))
+      is_derived n list_with_label (derived st n) (derived_shape n st)
+      (fewer_closed no_more (derived_closed n st names))
       (smallest n st _ (fewer_closed (λ x other s. still _ s) (derived_closed n list_with_label names_more)))
 
   -- where a pair clashes there is a clash
-  clash_at : (x y : ℕ) → x < n → y < n → facts_of st n Kind.Compatible x y ≡ true → labels_differ list_with_label x y ≡ true
-      → clashes list_with_label n ≡ true
+  clash_at : (x y : ℕ) → x < n → y < n → facts_of st n Kind.Compatible x y ≡ true
+      → labels_differ list_with_label x y ≡ true → clashes list_with_label n ≡ true
   unfolding list_with_label clashes_at
   clash_at x y g g' p d =
       decided (clashes list_with_label n) (λ e. e)

@@ -36,7 +36,8 @@ returns-then-any c =
     let under = is_under r c.index-subject.result c.in-Selection.f.0 c.index-child.result in
     let over = is_over r c.index-subject.result c.in-Selection.f.0 c.index-child.result in
     by_both c.index-subject.ensures c.index-child.ensures c.requires.selections c.in-Selection.is
-    (sym (any_from_yields_List under _ _ c.any.result c.any.ensures.ran (YieldsList-from_slice list (cc)) (λ x b q k. search (rules, tests)))
+    (sym (any_from_yields_List under _ _ c.any.result c.any.ensures.ran (YieldsList-from_slice list (cc))
+    (λ x b q k. search (rules, tests)))
     ∙ c.if-any.true)
     (any_from_yields_List over _ _ c.any-then-any.result c.any-then-any.ensures.ran (YieldsList-from_slice list (cc))
     (λ x b q k. search (rules, tests)))
@@ -47,7 +48,8 @@ returns-else-any c =
     let r = facts c.args.table.now.n c.args.table.now.cells.now in
     let under = is_under r c.index-subject.result c.in-Selection.f.0 c.index-child.result in
     by_none_under c.index-subject.ensures c.index-child.ensures c.requires.selections c.in-Selection.is
-    (any_from_yields_List under _ _ c.any.result c.any.ensures.ran (YieldsList-from_slice list (cc)) (λ x b q k. search (rules, tests)))
+    (any_from_yields_List under _ _ c.any.result c.any.ensures.ran (YieldsList-from_slice list (cc))
+    (λ x b q k. search (rules, tests)))
     c.if-any.false
 
 pub returns-in-Labelling : goal.returns-in-Labelling
