@@ -86,7 +86,8 @@ module _ (n : ℕ) (st : List Statement) (names : AllName n st) (i a : ℕ) (h :
 
   -- where a pair clashes there is a clash
   clash_at : (x y : ℕ) → x < n → y < n → facts_of st n Kind.Compatible x y ≡ true
-      → labels_differ list_with_label x y ≡ true → clashes list_with_label n ≡ true
+      → labels_differ list_with_label x y ≡ true
+      → clashes list_with_label n ≡ true
   unfolding list_with_label clashes_at
   clash_at x y g g' p d =
       decided (clashes list_with_label n) (λ e. e)

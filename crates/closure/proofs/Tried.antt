@@ -51,7 +51,8 @@ module _ (n : ℕ) (st : List Statement) (q : Statement) (all : AllName n st) (n
   more_differ i j p = differ_of st i j p λ a b s s' d. differ_by (still q s) (still q s') d
 
   -- by a pair to which F5 applies
-  by_pair : (i j : ℕ) → Holds (facts_of more n) Kind.Compatible i j → labels_differ st i j ≡ true → clashes more n ≡ true
+  by_pair : (i j : ℕ) → Holds (facts_of more n) Kind.Compatible i j → labels_differ st i j ≡ true
+      → clashes more n ≡ true
   unfolding clashes_at
   by_pair i j alike differ =
       decided (clashes more n) (λ c. c)

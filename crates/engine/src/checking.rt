@@ -1,10 +1,11 @@
 // The check of a sheet: all facts, and the verdict; on a consistent sheet one reply a question.
-ghost use Rattle.std.specs.Prelude.{◌≤◌, [], length, replicate, map, ◌≡◌};
+ghost use Rattle.std.specs.Prelude.{◌≤◌, [], length, replicate, map, None, ◌≡◌};
 ghost use Rattle.headers.specs.Headers.{size_for};
 ghost use Rattle.sheet.specs.Sheets.{longest, sheet_of};
 ghost use Rattle.rules.specs.Replies.{replies_of, reply_number};
 ghost use Rattle.rules.specs.Verdicts.{verdict_by};
-ghost use Rattle.closure.specs.Making.{Lawful, Made};
+ghost use Rattle.closure.specs.Making.{Lawful, Made, variables_of};
+ghost use Rattle.closure.specs.Trials.{variables_in, table_in, queue_in, IsKept};
 ghost use Rattle.outcomes.specs.Outcomes.{packed};
 ghost use Rattle.promise.specs.Checks.{of_refusal, where_consistent, Checked};
 ghost use Rattle.promise.specs.Promise.{Means};
@@ -41,7 +42,29 @@ fn close(facts: &mut [u8], n: usize, lists: &Lists, groups: &mut Groups, queue: 
     make(&mut growth, groups, lists.pairs.as_slice(), lists.selections.as_slice());
 }
 
-// The replies to all questions of consistent statements, tried in the second table, which is cleared then.
+// The replies to all questions of consistent statements, tried in a copy of their table, which is cleared then.
+fn reply_in_copy(
+    sheet: &[u8],
+    accepted: Accepted,
+    closed: &Closed,
+    trial: &mut Trial,
+    replies: &mut [u8],
+)
+    requires answering { Answering sheet.now accepted closed.now trial.old.groups (sheet_of sheet.now).stated
+        (table_in trial.old) replies.old }
+    requires sizes { variables_of closed.now ≡ variables_in trial.old }
+    requires consistent { closed.now.clash ≡ None }
+    requires empty { queue_in trial.old ≡ [] }
+    ensures cleared { table_in trial.new ≡ replicate (length (table_in trial.old)) 0 }
+    ensures kept { IsKept trial.old trial.new }
+    ensures replied { replies.new ≡ map reply_number (replies_of (sheet_of sheet.now)) }
+{
+    trial.growth.table.copy_from(closed.table);
+    reply_all(sheet, accepted, closed, trial, replies);
+    trial.growth.table.clear();
+}
+
+// The same in the second table, of statements that are told to be consistent.
 fn answer_consistent(
     sheet: &[u8],
     accepted: Accepted,
@@ -67,9 +90,7 @@ fn answer_consistent(
         },
         groups,
     };
-    trial.growth.table.copy_from(closed.table);
-    reply_all(sheet, accepted, closed, &mut trial, replies);
-    trial.growth.table.clear();
+    reply_in_copy(sheet, accepted, closed, &mut trial, replies);
 }
 
 // The same where the statements are consistent, and nothing where they clash.

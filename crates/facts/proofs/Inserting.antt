@@ -107,7 +107,8 @@ module _ (n : ℕ) (t : List ℕ) (w u v : ℕ) (shape : Shape n t) (framed : Fr
           → says kind (pick a (cell_at n t v y) (pick c 2 0)) ≡ true → Takes kind y
       of true c p q e = by_order p (said kind v y g b e)
       of false true p q e =
-          by_both (only_two (λ k. k ≡ Kind.Compatible) kind e refl) (says_some w some small p) (said Kind.Ordered y v b g q)
+          by_both (only_two (λ k. k ≡ Kind.Compatible) kind e refl) (says_some w some small p)
+          (said Kind.Ordered y v b g q)
       of false false p q e = absurd (contrary e (says_nothing kind))
 
   row_ordered : (kind : Kind) (y : ℕ) → says Kind.Ordered w ≡ true → Holds (facts n t) kind v y
@@ -119,7 +120,8 @@ module _ (n : ℕ) (t : List ℕ) (w u v : ℕ) (shape : Shape n t) (framed : Fr
   unfolding cell_taken_at
   row_compatible y q =
       decided (says Kind.Ordered w) (λ a. row_ordered Kind.Compatible y a (meets y v q))
-      (λ a. ap (says Kind.Compatible) (sym (passed _ _ _ a (chosen _ _ 0 (says_it Kind.Ordered y v q) refl))) ∙ says_two)
+      (λ a. ap (says Kind.Compatible) (sym (passed _ _ _ a (chosen _ _ 0 (says_it Kind.Ordered y v q) refl)))
+      ∙ says_two)
 
   said_row : (kind : Kind) (y : ℕ) → Takes kind y → says kind (cell_taken_at n t w v y) ≡ true
   said_row kind y (by_order p q) = row_ordered kind y p q
@@ -205,7 +207,8 @@ module _ (n : ℕ) (t : List ℕ) (w u v : ℕ) (shape : Shape n t) (framed : Fr
         (λ mark.
         taken_at Kind.Compatible x y y x p (takes_column Kind.Compatible y takes) mark
         (back (said_row Kind.Compatible y takes) (record { first = refl; second = refl; told = says_two })))
-        (λ there. added.moves.grows Kind.Compatible y x (framed.symmetric x y (follows Kind.Compatible x y there takes)))
+        (λ there. added.moves.grows Kind.Compatible y x
+        (framed.symmetric x y (follows Kind.Compatible x y there takes)))
 
     -- where a fact of the new table comes from
     data From (kind : Kind) (i j : ℕ) : Type 0 where
@@ -288,7 +291,8 @@ module _ (n : ℕ) (t : List ℕ) (w u v : ℕ) (shape : Shape n t) (framed : Fr
           subst (λ k. Holds r k i j) (sym e)
           (closed.symmetric j i
           (closed.through Kind.Compatible j v i (within Kind.Ordered j v q)
-          (closed.symmetric i v (closed.through Kind.Compatible i u v (within Kind.Ordered i u p) (has Kind.Compatible a)))))
+          (closed.symmetric i v (closed.through Kind.Compatible i u v (within Kind.Ordered i u p)
+          (has Kind.Compatible a)))))
 
       from_within : (kind : Kind) (i j : ℕ) → From kind i j → Holds r kind i j
       from_within kind i j (old p) = within kind i j p

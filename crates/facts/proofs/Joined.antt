@@ -35,12 +35,16 @@ pub joined_says : (kind : Kind) (c w : ℕ) → c < 4 → w < 4 → says kind (b
 unfolding says same less ◌or◌ Joins
 joined_says Kind.Ordered c w h g =
     cell_cases (λ x. Joins Kind.Ordered x w)
-    (cell_cases (Joins Kind.Ordered 0) refl refl refl refl w g) (cell_cases (Joins Kind.Ordered 1) refl refl refl refl w g)
-    (cell_cases (Joins Kind.Ordered 2) refl refl refl refl w g) (cell_cases (Joins Kind.Ordered 3) refl refl refl refl w g) c h
+    (cell_cases (Joins Kind.Ordered 0) refl refl refl refl w g)
+    (cell_cases (Joins Kind.Ordered 1) refl refl refl refl w g)
+    (cell_cases (Joins Kind.Ordered 2) refl refl refl refl w g)
+    (cell_cases (Joins Kind.Ordered 3) refl refl refl refl w g) c h
 joined_says Kind.Compatible c w h g =
     cell_cases (λ x. Joins Kind.Compatible x w)
-    (cell_cases (Joins Kind.Compatible 0) refl refl refl refl w g) (cell_cases (Joins Kind.Compatible 1) refl refl refl refl w g)
-    (cell_cases (Joins Kind.Compatible 2) refl refl refl refl w g) (cell_cases (Joins Kind.Compatible 3) refl refl refl refl w g)
+    (cell_cases (Joins Kind.Compatible 0) refl refl refl refl w g)
+    (cell_cases (Joins Kind.Compatible 1) refl refl refl refl w g)
+    (cell_cases (Joins Kind.Compatible 2) refl refl refl refl w g)
+    (cell_cases (Joins Kind.Compatible 3) refl refl refl refl w g)
     c h
 
 -- a cell that a join leaves as it is says all that the other says, and one that it changes lacked something

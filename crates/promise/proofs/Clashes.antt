@@ -15,7 +15,8 @@ pub nowhere_by : (c : Option Clash) → verdict_by c ≡ Verdict.Consistent → 
 nowhere_by None e = refl
 nowhere_by (Some pair) e = cc
 
-between_by : (c : Option Clash) (i j : Variable) → verdict_by c ≡ Verdict.Clash i j → c ≡ Some (record { first = i; second = j })
+between_by : (c : Option Clash) (i j : Variable) → verdict_by c ≡ Verdict.Clash i j
+    → c ≡ Some (record { first = i; second = j })
 between_by None i j e = cc
 between_by (Some c) i j e =
     let same_row : c.first ≡ i = cc in
@@ -27,7 +28,8 @@ module _ (s : Sheet) where
   unfolding verdict_of
   nowhere e = nowhere_by _ e
 
-  pub between : (i j : Variable) → verdict_of s ≡ Verdict.Clash i j → clash_of s.stated s.n ≡ Some (record { first = i; second = j })
+  pub between : (i j : Variable) → verdict_of s ≡ Verdict.Clash i j
+      → clash_of s.stated s.n ≡ Some (record { first = i; second = j })
   unfolding verdict_of
   between i j e = between_by _ i j e
 

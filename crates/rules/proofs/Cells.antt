@@ -23,7 +23,8 @@ says_compatible_lem true false = refl
 says_compatible_lem false true = refl
 says_compatible_lem false false = refl
 
-pub said : (test : Kind → Bool) (kind : Kind) → says kind (cell_of (test Kind.Ordered) (test Kind.Compatible)) ≡ test kind
+pub said : (test : Kind → Bool) (kind : Kind)
+    → says kind (cell_of (test Kind.Ordered) (test Kind.Compatible)) ≡ test kind
 said test Kind.Ordered = says_ordered_lem _ _
 said test Kind.Compatible = says_compatible_lem _ _
 

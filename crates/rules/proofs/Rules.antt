@@ -80,7 +80,8 @@ module _ (n : ℕ) (st : List Statement) (R : Kind → ℕ → ℕ → Type 0) (
   unfolding passes
   passes_within kind i j p =
       below_one n _ p λ k h q.
-      closed.through kind i k j (within Kind.Ordered i k (first_of_and _ _ q)) (within kind k j (second_of_and (r Kind.Ordered i k) _ q))
+      closed.through kind i k j (within Kind.Ordered i k (first_of_and _ _ q))
+      (within kind k j (second_of_and (r Kind.Ordered i k) _ q))
 
   turns_within : (kind : Kind) (i j : ℕ) → turns r kind i j ≡ true → R kind i j
   unfolding turns

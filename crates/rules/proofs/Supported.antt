@@ -56,7 +56,8 @@ pub record Carries (n : ℕ) (st' : List Statement) (r' : Relation) (st : List S
       → Holds r' Kind.Ordered k i → Holds r' Kind.Ordered j m → under_child st r i f j ≡ true
   pub overs : (i f j k m : ℕ) → i < n → j < n → Stated st' (selection k f m)
       → Holds r' Kind.Ordered i k → Holds r' Kind.Ordered m j → over_child st r i f j ≡ true
-  pub labels : (i a k : ℕ) → i < n → Stated st' (labelling k a) → Holds r' Kind.Ordered k i → under_label st r i a ≡ true
+  pub labels : (i a k : ℕ) → i < n → Stated st' (labelling k a) → Holds r' Kind.Ordered k i
+      → under_label st r i a ≡ true
 
 module _ {n : ℕ} {st' st : List Statement} {r' r : Relation} (c : Carries n st' r' st r) where
   pub carried : (q : Statement) → Names n q → supported st' r' q ≡ true → supported st r q ≡ true

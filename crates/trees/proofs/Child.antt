@@ -42,12 +42,14 @@ with_child n st r i f kind x y = between st r i f kind (same x n) (same y n) x y
 
 module _ {st : List Statement} (r : Relation) {i f : ℕ} where
   -- 4.4 and 4.5 by a selection, and the selection from them
-  pub compatible_over : {k m x : ℕ} → Stated st (selection k f m) → Holds r Kind.Ordered i k → Holds r Kind.Compatible m x
+  pub compatible_over : {k m x : ℕ} → Stated st (selection k f m) → Holds r Kind.Ordered i k
+      → Holds r Kind.Compatible m x
       → compatible_child st r i f x ≡ true
   unfolding compatible_child
   compatible_over s p q = either_first _ (by_selection_at f _ _ s p q)
 
-  pub compatible_under : {k m x : ℕ} → Stated st (selection k f m) → Holds r Kind.Compatible k i → Holds r Kind.Ordered x m
+  pub compatible_under : {k m x : ℕ} → Stated st (selection k f m) → Holds r Kind.Compatible k i
+      → Holds r Kind.Ordered x m
       → compatible_child st r i f x ≡ true
   unfolding compatible_child
   compatible_under s p q = either_second _ (by_selection_at f _ _ s p q)

@@ -117,7 +117,8 @@ module _ {n : ℕ} {st : List Statement} {r : Relation} (L : Laws n st r) (i f :
   compatible_old : (x : ℕ) → compatible_child st r i f x ≡ true → x < n
   compatible_old x p =
       compatible_of st r i f x p
-      (λ k m s h l. right_variable L Kind.Compatible l (child_of s)) (λ k m s h l. left_variable L Kind.Ordered l (child_of s))
+      (λ k m s h l. right_variable L Kind.Compatible l (child_of s))
+      (λ k m s h l. left_variable L Kind.Ordered l (child_of s))
 
   between_apart : (kind : Kind) (a b : Bool) (x y : ℕ) → same x n ≡ a → same y n ≡ b → Between kind a b x y → Apart x y
   between_apart kind false false x y d e p =

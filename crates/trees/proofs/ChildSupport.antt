@@ -22,7 +22,8 @@ module _ {n : ℕ} {st : List Statement} {r : Relation} (L : Laws n st r) (i f :
   more = with_child n st r i f
 
   -- support by the new selection is support by the old one that related its child
-  under_from : (x g y k m : ℕ) → x < n → y < n → From n st r i f k g m → Holds more Kind.Ordered k x → Holds more Kind.Ordered y m
+  under_from : (x g y k m : ℕ) → x < n → y < n → From n st r i f k g m → Holds more Kind.Ordered k x
+      → Holds more Kind.Ordered y m
       → under_child st r x g y ≡ true
   under_from x g y k m h h' (old s) a b =
       let names = named n st L.fit s in
@@ -33,7 +34,8 @@ module _ {n : ℕ} {st : List Statement} {r : Relation} (L : Laws n st r) (i f :
       under_of st r i f y below λ k' m' s p q.
       rw eg (under_by r s (through L Kind.Ordered p above) q)
 
-  over_from : (x g y k m : ℕ) → x < n → y < n → From n st r i f k g m → Holds more Kind.Ordered x k → Holds more Kind.Ordered m y
+  over_from : (x g y k m : ℕ) → x < n → y < n → From n st r i f k g m → Holds more Kind.Ordered x k
+      → Holds more Kind.Ordered m y
       → over_child st r x g y ≡ true
   over_from x g y k m h h' (old s) a b =
       let names = named n st L.fit s in

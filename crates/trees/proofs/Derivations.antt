@@ -112,7 +112,8 @@ module _ (n : ℕ) (st : List Statement) (fit : AllName n st) where
       record {
         pairs = λ kind i j h h' p. to_fact kind i j h p;
         unders = λ i f j k m h h' s a b.
-            under_by (facts_of st n) s (to_fact Kind.Ordered k i (named n st fit s).0 a) (to_fact Kind.Ordered j m h' b);
+            under_by (facts_of st n) s (to_fact Kind.Ordered k i (named n st fit s).0 a)
+            (to_fact Kind.Ordered j m h' b);
         overs = λ i f j k m h h' s a b.
             over_by (facts_of st n) s (to_fact Kind.Ordered i k h a) (to_fact Kind.Ordered m j (named n st fit s).1 b);
         labels = λ i a k h s b. label_by (facts_of st n) s (to_fact Kind.Ordered k i (named n st fit s) b);

@@ -127,7 +127,8 @@ module _ {n : ℕ} {st : List Statement} {r : Relation} (L : Laws n st r) where
     step_under f set t h k u =
         step_in L u λ k' m s w p. (
           left_variable L Kind.Ordered p (named n st L.fit s).1,
-          related_through Kind.Ordered (v k) (v m) _ (true_to k m p) (child_below (all_one (Satisfies v) st kept s) (h k' w).1),
+          related_through Kind.Ordered (v k) (v m) _ (true_to k m p)
+              (child_below (all_one (Satisfies v) st kept s) (h k' w).1),
         )
 
     walk_under : (p : Path) (set : List ℕ) (t : Tree) → Under set t

@@ -55,7 +55,8 @@ module _ (n : ℕ) (st : List Statement) (r : Relation) where
   -- a statement of the marks
   pub data Mark (z : Statement) : Type 0 where
     own : (x : ℕ) → x < n → z ≡ selection x (mark_of st x) n → Mark z
-    against : (x y : ℕ) → x < n → y < n → r Kind.Compatible x y ≡ false → z ≡ selection y (mark_of st x) (suc n) → Mark z
+    against : (x y : ℕ) → x < n → y < n → r Kind.Compatible x y ≡ false → z ≡ selection y (mark_of st x) (suc n)
+        → Mark z
 
   pub mark_selection : {z : Statement} → Mark z → IsSelection z
   mark_selection (own x h e) = is_selection e

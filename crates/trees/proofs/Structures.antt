@@ -80,9 +80,11 @@ module _ {n : ℕ} {st : List Statement} {r : Relation} (L : Laws n st r) where
   right_variable kind {i} {j} p h = ⊎_elim (λ e. subst (λ x. x < n) e h) (λ b. b.1) (L.apart kind i j p)
 
   -- F3.2 on the right, and on both sides
-  pub compatible_right : {i j k : ℕ} → Holds r Kind.Compatible i j → Holds r Kind.Ordered k j → Holds r Kind.Compatible i k
+  pub compatible_right : {i j k : ℕ} → Holds r Kind.Compatible i j → Holds r Kind.Ordered k j
+      → Holds r Kind.Compatible i k
   compatible_right h p = symmetric L (through L Kind.Compatible p (symmetric L h))
 
-  pub compatible_below : {i j k l : ℕ} → Holds r Kind.Ordered k i → Holds r Kind.Compatible i j → Holds r Kind.Ordered l j
+  pub compatible_below : {i j k l : ℕ} → Holds r Kind.Ordered k i → Holds r Kind.Compatible i j
+      → Holds r Kind.Ordered l j
       → Holds r Kind.Compatible k l
   compatible_below p h q = compatible_right (through L Kind.Compatible p h) q
