@@ -80,7 +80,8 @@ module _ (n : ℕ) (st : List Statement) (names : AllName n st) (i a : ℕ) (h :
   pub same_derived : derived st n ≡ derived (st ++ (labelling i a ∷ [])) n
   unfolding list_with_label
   same_derived =
-      is_derived n list_with_label (derived st n) (derived_shape n st) (fewer_closed no_more (derived_closed n st names))
+      is_derived n list_with_label (derived st n) (derived_shape n st)
+      (fewer_closed no_more (derived_closed n st names))
       (smallest n st _ (fewer_closed (λ x other s. still _ s) (derived_closed n list_with_label names_more)))
 
   -- where a pair clashes there is a clash

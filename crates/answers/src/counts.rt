@@ -9,7 +9,6 @@ use rules::Kind;
 use table::Table;
 
 // The facts of the kind in row i.
-#[tactic(auto, unfolding(rules::specs::Tables::count_passing, rules::specs::Tables::count_row, fields::specs::Tests::pick))]
 fn count_row(table: &Table<'_>, kind: Kind, i: usize) -> usize
     requires { Lent table.now.n table.now.cells.now × (i < table.now.n) }
     ensures { RowCount table.now.n table.now.cells.now kind i result }

@@ -1,6 +1,5 @@
 // Support: whether a question follows from the facts of the table.
 ghost use Rattle.std.specs.Prelude.{◌<◌, ◌≡◌};
-ghost use Rattle.std.specs.List.{list_any};
 ghost use Rattle.items.specs.Statements.{Names};
 ghost use Rattle.rules.specs.Tables.{facts};
 ghost use Rattle.selections.specs.Listed.{Selections};
@@ -39,26 +38,6 @@ fn is_over(table: &Table<'_>, selection: &Selection, i: usize, f: Feature, j: us
         && has_fact(table, Kind::Ordered, selection.child.index(), j)
 }
 
-// Whether some selection of the list is so under.
-fn has_under(table: &Table<'_>, list: &[Selection], i: usize, f: Feature, j: usize) -> bool
-    requires lent { Lent table.now.n table.now.cells.now × ((i < table.now.n) × (j < table.now.n)) }
-    requires selections { Selections table.now.n list.now }
-    ensures { result ≡ list_any (is_under (facts table.now.n table.now.cells.now) i f.0 j) list.now }
-{
-    list.iter()
-        .any(|selection| is_under(table, selection, i, f, j))
-}
-
-// Whether some selection of the list is so over.
-fn has_over(table: &Table<'_>, list: &[Selection], i: usize, f: Feature, j: usize) -> bool
-    requires lent { Lent table.now.n table.now.cells.now × ((i < table.now.n) × (j < table.now.n)) }
-    requires selections { Selections table.now.n list.now }
-    ensures { result ≡ list_any (is_over (facts table.now.n table.now.cells.now) i f.0 j) list.now }
-{
-    list.iter()
-        .any(|selection| is_over(table, selection, i, f, j))
-}
-
 // Whether some k ≤ i has the label a.
 fn has_label(table: &Table<'_>, labels: &Labels, i: usize, a: Label) -> bool
     requires lent { Lent table.now.n table.now.cells.now × (i < table.now.n) }
@@ -81,7 +60,11 @@ pub fn supports(table: &Table<'_>, list: &[Selection], labels: &Labels, q: State
         Statement::Selection(i, f, j) => {
             let subject = i.index();
             let child = j.index();
-            has_under(table, list, subject, f, child) && has_over(table, list, subject, f, child)
+            list.iter()
+                .any(|selection| is_under(table, selection, subject, f, child))
+                && list
+                    .iter()
+                    .any(|selection| is_over(table, selection, subject, f, child))
         }
         Statement::Labelling(i, a) => has_label(table, labels, i.index(), a),
     }

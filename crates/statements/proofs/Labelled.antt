@@ -124,7 +124,8 @@ pub ruleset label_from = (labels_over, label_found, label_passed, labels_refused
 
 -- a whole sheet
 pub accepted_label : (s : List ℕ) (a : Accepted) (i : ℕ) → read_sheet s ≡ Ok a
-    → stated_label (sheet_of s).stated i ≡ stated_label (stated_from a.header.records s a.header.variables a.header.first) i
+    → stated_label (sheet_of s).stated i
+    ≡ stated_label (stated_from a.header.records s a.header.variables a.header.first) i
 unfolding sheet_at
 accepted_label s a i e = rw (accepted_sheet s a e) refl
 

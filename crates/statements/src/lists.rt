@@ -28,7 +28,7 @@ pub struct Lists {
 
 impl Lists {
     // Lists in which nothing stands.
-    pub fn empty() -> Lists
+    pub(crate) fn empty() -> Lists
         ensures pairs { result.pairs.items ≡ [] }
         ensures selections { result.selections.items ≡ [] }
         ensures labels { result.labels.spreads ≡ replicate most_variables Spread.Nothing }
@@ -61,7 +61,7 @@ impl Lists {
     }
 
     // Puts a statement behind the others.
-    pub fn put(&mut self, q: Statement)
+    fn put(&mut self, q: Statement)
         requires { Putting (q ∷ []) (pairs_in q) (selections_in q) self.old }
         ensures { Put (q ∷ []) (pairs_in q) (selections_in q) self.old self.new }
     {
@@ -84,7 +84,7 @@ impl Lists {
     }
 
     // Puts what a record states behind the others, by rising bit.
-    pub fn put_record(&mut self, x: Item)
+    pub(crate) fn put_record(&mut self, x: Item)
         requires { Putting (statements_of x) 2 1 self.old }
         ensures { Put (statements_of x) 2 1 self.old self.new }
     {

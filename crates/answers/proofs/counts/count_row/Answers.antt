@@ -15,6 +15,7 @@ returns c =
     let test : ℕ → Bool = λ j. facts t.n t.cells.now c.args.kind c.args.i j in
     let e : c.count.result ≡ count_by test (range_with_len 0 t.n) =
     count_from_yields_List c.filter.result _ c.count.ensures.ran
-    (YieldsList-from_filter _ test (YieldsList-from_range 0 t.n t.n (cc) (omega arith)) c.filter.ensures.closure (λ x b q k. search (rules, tests)))
+    (YieldsList-from_filter _ test (YieldsList-from_range 0 t.n t.n (cc) (omega arith)) c.filter.ensures.closure
+    (λ x b q k. search (rules, tests)))
     ∙ length-filter test (range_with_len 0 t.n) in
     record { count = e ∙ counted test t.n; most = omega (arith, e, counted_most test t.n) }
