@@ -7,25 +7,25 @@ use Rattle.sheet.specs.declared.whole.Accepted.{Accepted}
 use Rattle.sheet.specs.Sheets.{sheet, read_sheet}
 use Rattle.rules.specs.declared.replies.Reply.{Reply}
 use Rattle.rules.specs.Replies.{reply_to}
+use Rattle.facts.specs.declared.growth.Growth.{Growth}
 use Rattle.selections.specs.declared.grouped.Groups.{Groups}
 use Rattle.selections.specs.Listed.{Selections, Listed}
 use Rattle.selections.specs.Stands.{SelectionsStand}
 use Rattle.answers.specs.Supports.{SingleLabels}
 use Rattle.closure.specs.declared.closed.Closed.{Closed}
-use Rattle.closure.specs.declared.trials.Trial.{Trial}
-use Rattle.closure.specs.Trials.{variables_in, table_in, queue_in, Trying, Standing}
+use Rattle.closure.specs.Trials.{Trying, Standing}
 use Rattle.closure.specs.Making.{variables_of, table_of, spreads_of, IsTold}
 
--- closed statements that do not clash, and a trial with a copy of their table, an empty queue and their groups
-pub record Replying (c : Closed) (x : Trial) : Type 0 where
-  pub sizes : variables_of c ≡ variables_in x
-  pub copied : table_in x ≡ table_of c
-  pub empty : queue_in x ≡ []
-  pub trying : Trying (variables_in x) (table_of c) x.groups
+-- closed statements that do not clash, a growth with a copy of their table and an empty queue, and their groups
+pub record Replying (c : Closed) (g : Growth) (groups : Groups) : Type 0 where
+  pub sizes : variables_of c ≡ g.n
+  pub copied : g.cells.now ≡ table_of c
+  pub empty : g.queue.now.items ≡ []
+  pub trying : Trying g.n (table_of c) groups
   pub told : IsTold c
   pub consistent : c.clash ≡ None
-  pub selections : Selections (variables_in x) c.selections.now
-  pub single : SingleLabels (variables_in x) (spreads_of c)
+  pub selections : Selections g.n c.selections.now
+  pub single : SingleLabels g.n (spreads_of c)
 
 -- statements that stand in these, and of which the closed table is derived
 pub record Held (n : ℕ) (c : Closed) (groups : Groups) (st : List Statement) : Type 0 where

@@ -2,40 +2,42 @@
 ghost use Rattle.std.specs.Prelude.{◌≡◌};
 ghost use Rattle.items.specs.Questions.{Asks, holds, query_of};
 ghost use Rattle.items.specs.Statements.{Names};
-ghost use Rattle.closure.specs.Trials.{variables_in, Restored};
+ghost use Rattle.closure.specs.Trials.{Restored};
 ghost use Rattle.replies.specs.Replying.{Replying, Held, ReplyTold};
 
 use answers::supports;
-use closure::{Closed, Trial};
+use closure::{Closed, trial};
+use facts::Growth;
 use items::{Question, Statement};
 use rules::Reply;
+use selections::Groups;
 
 // The reply to whether x holds.
-fn reply_statement(closed: &Closed, trial: &mut Trial, x: Statement) -> Reply
-    requires replying { Replying closed.now trial.old }
-    requires names { Names (variables_in trial.old) x }
-    ensures told { ReplyTold (variables_in trial.old) (Held (variables_in trial.old) closed.now trial.old.groups)
+fn reply_statement(closed: &Closed, growth: &mut Growth, groups: &mut Groups, x: Statement) -> Reply
+    requires replying { Replying closed.now growth.old groups.old }
+    requires names { Names growth.old.n x }
+    ensures told { ReplyTold growth.old.n (Held growth.old.n closed.now groups.old)
         (holds x) result }
-    ensures restored { Restored trial.old trial.new }
+    ensures restored { Restored growth.old growth.new groups.old groups.new }
 {
     if supports(closed.table, closed.selections, closed.labels, x) {
         return Reply::Always;
     }
-    if trial.clashes(closed, x) {
+    if trial(closed, growth, groups, x) {
         return Reply::Never;
     }
     Reply::Open
 }
 
-// The reply to a question; the trial is then as it was.
-pub fn reply(closed: &Closed, trial: &mut Trial, question: Question) -> Reply
-    requires replying { Replying closed.now trial.old }
-    requires names { Asks (variables_in trial.old) (query_of question) }
-    ensures told { ReplyTold (variables_in trial.old) (Held (variables_in trial.old) closed.now trial.old.groups)
+// The reply to a question; table, queue and groups are then as they were.
+pub fn reply(closed: &Closed, growth: &mut Growth, groups: &mut Groups, question: Question) -> Reply
+    requires replying { Replying closed.now growth.old groups.old }
+    requires names { Asks growth.old.n (query_of question) }
+    ensures told { ReplyTold growth.old.n (Held growth.old.n closed.now groups.old)
         (query_of question) result }
-    ensures restored { Restored trial.old trial.new }
+    ensures restored { Restored growth.old growth.new groups.old groups.new }
 {
     match question {
-        Question::Holds(x) => reply_statement(closed, trial, x),
+        Question::Holds(x) => reply_statement(closed, growth, groups, x),
     }
 }

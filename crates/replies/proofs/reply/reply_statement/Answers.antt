@@ -6,12 +6,12 @@ pub returns-then-supports-clause-told : goal.returns-then-supports-clause-told
 returns-then-supports-clause-told c =
     always_told c.requires.replying.sizes _ _ c.supports.ensures c.if-supports.true
 
-pub returns-then-clashes-clause-told : goal.returns-then-clashes-clause-told
-returns-then-clashes-clause-told c =
-    never_told c.requires.replying.sizes _ _ c.supports.ensures c.if-supports.false c.clashes.ensures.tried
-    c.if-clashes.true
+pub returns-then-trial-clause-told : goal.returns-then-trial-clause-told
+returns-then-trial-clause-told c =
+    never_told c.requires.replying.sizes _ _ c.supports.ensures c.if-supports.false c.trial.ensures.tried
+    c.if-trial.true
 
 pub returns-clause-told : goal.returns-clause-told
 returns-clause-told c =
-    open_told c.requires.replying.sizes _ _ c.supports.ensures c.if-supports.false c.clashes.ensures.tried
-    c.if-clashes.false
+    open_told c.requires.replying.sizes _ _ c.supports.ensures c.if-supports.false c.trial.ensures.tried
+    c.if-trial.false

@@ -5,7 +5,7 @@ use Rattle.replies.proofs.Going.{going_start, question_asks, going_refused, goin
 use Rattle.replies.proofs.sheets.reply_all.Goals as goal
 
 pub loop-place-init : goal.loop-place-init
-loop-place-init c = going_start _ _ _ _ c.requires.asked
+loop-place-init c = going_start _ _ _ _ _ c.requires.asked
 
 pub reply-requires-clause-names : goal.reply-requires-clause-names
 reply-requires-clause-names c =
