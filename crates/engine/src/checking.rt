@@ -4,14 +4,14 @@ ghost use Rattle.headers.specs.Headers.{size_for};
 ghost use Rattle.sheet.specs.Sheets.{longest, sheet_of};
 ghost use Rattle.rules.specs.Replies.{replies_of, reply_number};
 ghost use Rattle.rules.specs.Verdicts.{verdict_by};
+ghost use Rattle.facts.specs.Growth.{IsSame};
 ghost use Rattle.closure.specs.Making.{Lawful, Made, variables_of};
-ghost use Rattle.closure.specs.Trials.{variables_in, table_in, queue_in, IsKept};
 ghost use Rattle.outcomes.specs.Outcomes.{packed};
 ghost use Rattle.promise.specs.Checks.{of_refusal, where_consistent, Checked};
 ghost use Rattle.promise.specs.Promise.{Means};
 ghost use Rattle.engine.specs.Steps.{Answering, Accepting, Filled};
 
-use closure::{Closed, Trial, make};
+use closure::{Closed, make};
 use facts::Growth;
 use outcomes::{Outcome, judge, outcome_of};
 use replies::reply_all;
@@ -36,7 +36,8 @@ fn close(facts: &mut [u8], n: usize, lists: &Lists, groups: &mut Groups, queue: 
     ensures emptied { queue.new.items ≡ [] }
 {
     let mut growth = Growth {
-        table: Table { cells: facts, n },
+        cells: facts,
+        n,
         queue,
     };
     make(&mut growth, groups, lists.pairs.as_slice(), lists.selections.as_slice());
@@ -47,64 +48,36 @@ fn reply_in_copy(
     sheet: &[u8],
     accepted: Accepted,
     closed: &Closed,
-    trial: &mut Trial,
+    growth: &mut Growth,
+    groups: &mut Groups,
     replies: &mut [u8],
 )
-    requires answering { Answering sheet.now accepted closed.now trial.old.groups (sheet_of sheet.now).stated
-        (table_in trial.old) replies.old }
-    requires sizes { variables_of closed.now ≡ variables_in trial.old }
+    requires answering { Answering sheet.now accepted closed.now groups.old (sheet_of sheet.now).stated
+        growth.old.cells.now replies.old }
+    requires sizes { variables_of closed.now ≡ growth.old.n }
     requires consistent { closed.now.clash ≡ None }
-    requires empty { queue_in trial.old ≡ [] }
-    ensures cleared { table_in trial.new ≡ replicate (length (table_in trial.old)) 0 }
-    ensures kept { IsKept trial.old trial.new }
+    requires empty { growth.old.queue.now.items ≡ [] }
+    ensures cleared { growth.new.cells.now ≡ replicate (length growth.old.cells.now) 0 }
+    ensures same { IsSame growth.old growth.new }
     ensures replied { replies.new ≡ map reply_number (replies_of (sheet_of sheet.now)) }
 {
-    trial.growth.table.copy_from(closed.table);
-    reply_all(sheet, accepted, closed, trial, replies);
-    trial.growth.table.clear();
+    growth.copy_from(closed.table);
+    reply_all(sheet, accepted, closed, growth, groups, replies);
+    growth.clear();
 }
 
-// The same in the second table, of statements that are told to be consistent.
-fn answer_consistent(
-    sheet: &[u8],
-    accepted: Accepted,
-    closed: &Closed,
-    groups: Groups,
-    work: &mut [u8],
-    queue: &mut Queue,
-    replies: &mut [u8],
-)
-    requires answering { Answering sheet.now accepted closed.now groups (sheet_of sheet.now).stated work.old replies.old }
-    requires consistent { closed.now.clash ≡ None }
-    requires empty { queue.old.items ≡ [] }
-    ensures cleared { work.new ≡ replicate (length work.old) 0 }
-    ensures replied { replies.new ≡ map reply_number (replies_of (sheet_of sheet.now)) }
-{
-    let mut trial = Trial {
-        growth: Growth {
-            table: Table {
-                cells: work,
-                n: closed.table.n,
-            },
-            queue,
-        },
-        groups,
-    };
-    reply_in_copy(sheet, accepted, closed, &mut trial, replies);
-}
-
-// The same where the statements are consistent, and nothing where they clash.
+// The same in the second table, where the statements are consistent; nothing where they clash.
 #[tactic(auto, unfolding(promise::specs::Checks::where_consistent))]
 fn answer(
     sheet: &[u8],
     accepted: Accepted,
     closed: &Closed,
-    groups: Groups,
+    groups: &mut Groups,
     work: &mut [u8],
     queue: &mut Queue,
     replies: &mut [u8],
 )
-    requires answering { Answering sheet.now accepted closed.now groups (sheet_of sheet.now).stated work.old replies.old }
+    requires answering { Answering sheet.now accepted closed.now groups.old (sheet_of sheet.now).stated work.old replies.old }
     requires empty { queue.old.items ≡ [] }
     ensures cleared { work.new
         ≡ where_consistent (verdict_by closed.now.clash) (replicate (length work.old) 0) work.old }
@@ -113,7 +86,14 @@ fn answer(
 {
     match Verdict::from(closed.clash) {
         Verdict::Clash(_, _) => (),
-        Verdict::Consistent => answer_consistent(sheet, accepted, closed, groups, work, queue, replies),
+        Verdict::Consistent => {
+            let mut growth = Growth {
+                cells: work,
+                n: closed.table.n,
+                queue,
+            };
+            reply_in_copy(sheet, accepted, closed, &mut growth, groups, replies);
+        }
     }
 }
 
@@ -135,7 +115,7 @@ fn check_accepted(
     close(facts, n, &lists, &mut groups, &mut queue);
     let table = Table { cells: facts, n };
     let closed = Closed::new(&table, lists.selections.as_slice(), &lists.labels);
-    answer(sheet, accepted, &closed, groups, work, &mut queue, replies);
+    answer(sheet, accepted, &closed, &mut groups, work, &mut queue, replies);
     outcome_of(Verdict::from(closed.clash), &table)
 }
 
