@@ -4,7 +4,8 @@ ghost use Rattle.fields.specs.Refusals.{bad_header_map, bad_variable_count};
 ghost use Rattle.headers.specs.Headers.{header_map, variable_count, count_field, count_if, header_of, table_size, reply_count};
 
 use fields::{
-    Cursor, Fault, Field, MOST_ITEMS, MOST_VARIABLES, Read, Refusal, has_bit, read_byte, read_word,
+    Cursor, Fault, MOST_ITEMS, MOST_VARIABLES, Read, Refusal, has_bit, read_byte, read_if,
+    read_word,
 };
 
 // How many bytes the largest fact table takes.
@@ -131,19 +132,11 @@ fn read_count(sheet: &[u8], from: Cursor) -> Read<u16>
     Ok(count)
 }
 
-// It is 0 where its bit is missing.
-#[tactic(auto, unfolding(crate::specs::Headers::count_if, fields::specs::Tests::pick))]
-fn read_count_if(stands: bool, sheet: &[u8], from: Cursor) -> Read<u16>
+// It is there only where its bit stands.
+fn read_count_if(stands: bool, sheet: &[u8], from: Cursor) -> Read<Option<u16>>
     ensures { result ≡ count_if stands sheet.now from }
 {
-    if stands {
-        read_count(sheet, from)
-    } else {
-        Ok(Field {
-            value: 0,
-            next: from,
-        })
-    }
+    read_if(stands, from, || read_count(sheet, from))
 }
 
 // The header alone: what follows it is not judged.
@@ -158,8 +151,8 @@ pub fn read_header(sheet: &[u8]) -> Result<Header, Refusal>
     Ok(Header {
         map: map.value,
         variables: variables.value,
-        records: records.value,
-        questions: questions.value,
+        records: records.value.unwrap_or(0),
+        questions: questions.value.unwrap_or(0),
         first: questions.next,
     })
 }

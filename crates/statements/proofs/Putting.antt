@@ -1,16 +1,15 @@
 -- One statement after another in the lists.
+use Rattle.std.specs.Prelude.{Option, Some, None, option_map, option_to_list}
 use Prim.Native.Nat.{ℕ, suc, ◌+◌, ◌<◌, ◌≤◌}
 use lib.ListN.{length, take, set, length-set}
 use lib.Seq.{take-suc-set, length-take-le}
-use mathlib.Core.Bool.{Bool, true, false}
 use mathlib.Core.List.{List, [], ◌∷◌, ◌++◌, append-nil, append_assoc}
 use mathlib.Core.Path.{◌≡◌, refl, sym, subst}
 use native.Mathlib.Omega.{arith}
 use Rattle.fields.specs.Limits.{most_variables, most_items}
-use Rattle.fields.specs.Tests.{pick, has}
 use Rattle.items.specs.declared.items.Item.{Item}
 use Rattle.items.specs.declared.items.Statement.{Statement}
-use Rattle.items.specs.Statements.{Names, AllName, stated_if, statements_of}
+use Rattle.items.specs.Statements.{Names, AllName, ordering_of, compatibility_of, selection_of, labelling_of, statements_of}
 use Rattle.rules.specs.Stated.{ordering, compatibility, selection, labelling}
 use Rattle.rules.specs.Facts.{Kind, ordered, compatible, fact}
 use Rattle.rules.proofs.Lists.{all_split}
@@ -18,7 +17,7 @@ use Rattle.selections.proofs.Stands.{more_selections, more_selections_stand, oth
 use Rattle.labels.specs.Labels.{NoLabelling, counts_with, labels_with}
 use Rattle.labels.proofs.Kept.{noted, other_kind}
 use Rattle.derivation.proofs.Stands.{kind_cell, no_subject, more_pairs, more_pairs_stand, other_than_pair}
-use Rattle.statements.specs.Lists.{Lists, Stand, Sized, Putting, Put, pairs_in, selections_in, pairs_room}
+use Rattle.statements.specs.Lists.{pairs_if, selections_if, Lists, Stand, Sized, Putting, Put, pairs_in, selections_in, pairs_room}
 
 -- one entry more in use
 grown : (l : List ℕ) (k v : ℕ) → k < length l → take (k + 1) (set l k v) ≡ take k l ++ (v ∷ [])
@@ -233,23 +232,6 @@ nothing_put sized =
       sized = sized;
     }
 
--- a statement where its bit stands, and where it does not
-module _ {x : Lists} (q : Statement) {stands : Bool} where
-  pub putting_where : stands ≡ true → Putting (stated_if stands q) (pairs_in q) (selections_in q) x
-      → Putting (q ∷ []) (pairs_in q) (selections_in q) x
-  unfolding pick
-  putting_where e p = subst (λ b. Putting (stated_if b q) (pairs_in q) (selections_in q) x) e p
-
-  pub put_where : {y : Lists} → stands ≡ true → Put (q ∷ []) (pairs_in q) (selections_in q) x y
-      → Put (stated_if stands q) (pairs_in q) (selections_in q) x y
-  unfolding pick
-  put_where {y} e p = subst (λ b. Put (stated_if b q) (pairs_in q) (selections_in q) x y) (sym e) p
-
-  pub put_nowhere : Sized x → stands ≡ false → Put (stated_if stands q) (pairs_in q) (selections_in q) x x
-  unfolding pick
-  put_nowhere sized e =
-      subst (λ b. Put (stated_if b q) (pairs_in q) (selections_in q) x x) (sym e) (nothing_put sized)
-
 -- some statements, then others
 pub put_both : {xs ys : List Statement} {pairs selections pairs' selections' : ℕ} {x y z : Lists}
     → Put xs pairs selections x y → Put ys pairs' selections' y z
@@ -267,16 +249,16 @@ put_both {xs} {ys} first second =
 -- the statements of a record, kind by kind
 module _ (x : Item) where
   abbrev first : List Statement
-  first = stated_if (has 1 x.map) (Statement.Ordering x.subject x.target)
+  first = option_to_list (ordering_of x)
 
   abbrev second : List Statement
-  second = stated_if (has 2 x.map) (Statement.Compatibility x.subject x.partner)
+  second = option_to_list (compatibility_of x)
 
   abbrev third : List Statement
-  third = stated_if (has 4 x.map) (Statement.Selection x.subject x.feature x.child)
+  third = option_to_list (selection_of x)
 
   abbrev fourth : List Statement
-  fourth = stated_if (has 8 x.map) (Statement.Labelling x.subject x.label)
+  fourth = option_to_list (labelling_of x)
 
   -- each kind names variables below m where all do
   pub record Each (m : ℕ) : Type 0 where
@@ -299,13 +281,50 @@ module _ (x : Item) where
   unfolding statements_of
   record_put p q r s = put_both p (put_both q (put_both r s))
 
--- one statement of a record is to be put
-pub putting_if : {a : Lists} (q : Statement) {stands bit : Bool} → stands ≡ bit → AllName most_variables (stated_if bit q)
-    → Sized a → a.pairs + pairs_in q ≤ pairs_room → a.selections + selections_in q ≤ most_items
-    → Putting (stated_if stands q) (pairs_in q) (selections_in q) a
-putting_if q e named sized room room' =
-    record { named = rw e named; sized = sized; pairs_fit = room; selections_room = room' }
+-- a statement that may be there takes so many pairs and selections at most
+pub record Takes (q : Option Statement) (pairs selections : ℕ) : Type 0 where
+  pub pairs_most : pairs_if q ≤ pairs
+  pub selections_most : selections_if q ≤ selections
 
-pub put_as : {a b : Lists} (q : Statement) {stands bit : Bool} → stands ≡ bit
-    → Put (stated_if stands q) (pairs_in q) (selections_in q) a b → Put (stated_if bit q) (pairs_in q) (selections_in q) a b
-put_as {a} {b} q e p = subst (λ s. Put (stated_if s q) (pairs_in q) (selections_in q) a b) e p
+takes : {T : Type 0} (make : T → Statement) (pairs selections : ℕ) → ((v : T) → pairs_in (make v) ≤ pairs)
+    → ((v : T) → selections_in (make v) ≤ selections) → (value : Option T) → Takes (option_map make value) pairs selections
+takes make pairs selections p s (Some v) = record { pairs_most = p v; selections_most = s v }
+takes make pairs selections p s None = record { pairs_most = omega arith; selections_most = omega arith }
+
+module _ (x : Item) where
+  pub ordering_takes : Takes (ordering_of x) 1 0
+  ordering_takes = takes _ 1 0 (λ v. omega arith) (λ v. omega arith) x.target
+
+  pub compatibility_takes : Takes (compatibility_of x) 1 0
+  compatibility_takes = takes _ 1 0 (λ v. omega arith) (λ v. omega arith) x.partner
+
+  pub selection_takes : Takes (selection_of x) 0 1
+  selection_takes = takes _ 0 1 (λ v. omega arith) (λ v. omega arith) x.edge
+
+  pub labelling_takes : Takes (labelling_of x) 0 0
+  labelling_takes = takes _ 0 0 (λ v. omega arith) (λ v. omega arith) x.label
+
+-- one statement of a record is to be put
+pub putting_if : {a : Lists} {q o : Option Statement} {pairs selections : ℕ} → q ≡ o → Takes o pairs selections
+    → AllName most_variables (option_to_list o) → Sized a
+    → a.pairs + pairs ≤ pairs_room → a.selections + selections ≤ most_items
+    → Putting (option_to_list q) (pairs_if q) (selections_if q) a
+putting_if {a} {q} {o} e t named sized room room' =
+    subst (λ y. Putting (option_to_list y) (pairs_if y) (selections_if y) a) (sym e)
+    (record {
+      named = named;
+      sized = sized;
+      pairs_fit = omega (arith, t.pairs_most, room);
+      selections_room = omega (arith, t.selections_most, room');
+    })
+
+pub put_as : {a b : Lists} {q o : Option Statement} {pairs selections : ℕ} → q ≡ o → Takes o pairs selections
+    → Put (option_to_list q) (pairs_if q) (selections_if q) a b → Put (option_to_list o) pairs selections a b
+put_as {a} {b} {q} {o} e t p =
+    let p' = subst (λ y. Put (option_to_list y) (pairs_if y) (selections_if y) a b) e p in
+    record {
+      stand = p'.stand;
+      more_pairs = omega (arith, p'.more_pairs, t.pairs_most);
+      more_selections = omega (arith, p'.more_selections, t.selections_most);
+      sized = p'.sized;
+    }

@@ -1,10 +1,10 @@
 // The lists in which statements stand, one statement after another.
-ghost use Rattle.std.specs.Prelude.{◌<◌, set, [], ◌∷◌, ◌≡◌};
+ghost use Rattle.std.specs.Prelude.{◌<◌, set, option_to_list, [], ◌∷◌, ◌≡◌};
 ghost use Rattle.fields.specs.Limits.{most_items};
-ghost use Rattle.items.specs.Statements.{statements_of, stated_if};
-ghost use Rattle.statements.specs.Lists.{lists, pairs_room, pairs_in, selections_in, Putting, Put};
+ghost use Rattle.items.specs.Statements.{statements_of};
+ghost use Rattle.statements.specs.Lists.{lists, pairs_room, pairs_in, selections_in, pairs_if, selections_if, Putting, Put};
 
-use fields::{Feature, MOST_ITEMS, MOST_VARIABLES, Variable, has_bit};
+use fields::{Feature, MOST_ITEMS, MOST_VARIABLES, Variable};
 use items::{Item, Statement};
 use labels::note_label;
 
@@ -117,10 +117,9 @@ fn put_statement(
     }
 }
 
-// Puts a statement behind the others where its bit stands.
+// Puts a statement behind the others where there is one.
 fn put_if(
-    stands: bool,
-    q: Statement,
+    q: Option<Statement>,
     cells: &mut [u8; PAIRS],
     lefts: &mut [u8; PAIRS],
     rights: &mut [u8; PAIRS],
@@ -131,21 +130,21 @@ fn put_if(
     labels: &mut [u16; MOST_VARIABLES],
     sizes: Sizes,
 ) -> Sizes
-    requires { Putting (stated_if stands q) (pairs_in q) (selections_in q)
+    requires { Putting (option_to_list q) (pairs_if q) (selections_if q)
         (lists sizes.pairs sizes.selections cells.old lefts.old rights.old subjects.old features.old children.old
         counts.old labels.old) }
-    ensures { Put (stated_if stands q) (pairs_in q) (selections_in q)
+    ensures { Put (option_to_list q) (pairs_if q) (selections_if q)
         (lists sizes.pairs sizes.selections cells.old lefts.old rights.old subjects.old features.old children.old
         counts.old labels.old)
         (lists result.pairs result.selections cells.new lefts.new rights.new subjects.new features.new children.new
         counts.new labels.new) }
 {
-    if stands {
-        return put_statement(
-            q, cells, lefts, rights, subjects, features, children, counts, labels, sizes,
-        );
+    match q {
+        Some(statement) => put_statement(
+            statement, cells, lefts, rights, subjects, features, children, counts, labels, sizes,
+        ),
+        None => sizes,
     }
-    sizes
 }
 
 // Puts what a record states behind the others, by rising bit.
@@ -170,16 +169,8 @@ pub fn put_record(
         (lists result.pairs result.selections cells.new lefts.new rights.new subjects.new features.new children.new
         counts.new labels.new) }
 {
-    let map = x.map;
-    let i = x.subject;
-    let target = x.target;
-    let partner = x.partner;
-    let feature = x.feature;
-    let child = x.child;
-    let label = x.label;
     let with_target = put_if(
-        has_bit(1, map),
-        Statement::Ordering(i, target),
+        x.ordering(),
         cells,
         lefts,
         rights,
@@ -191,8 +182,7 @@ pub fn put_record(
         sizes,
     );
     let with_partner = put_if(
-        has_bit(2, map),
-        Statement::Compatibility(i, partner),
+        x.compatibility(),
         cells,
         lefts,
         rights,
@@ -204,8 +194,7 @@ pub fn put_record(
         with_target,
     );
     let with_child = put_if(
-        has_bit(4, map),
-        Statement::Selection(i, feature, child),
+        x.selection(),
         cells,
         lefts,
         rights,
@@ -217,8 +206,7 @@ pub fn put_record(
         with_partner,
     );
     put_if(
-        has_bit(8, map),
-        Statement::Labelling(i, label),
+        x.labelling(),
         cells,
         lefts,
         rights,

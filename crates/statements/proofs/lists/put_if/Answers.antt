@@ -1,12 +1,12 @@
--- The bit stands, or it does not.
-use Rattle.statements.proofs.Putting.{putting_where, put_where, put_nowhere}
+-- There is a statement, or there is none.
+use Rattle.statements.proofs.Putting.{nothing_put}
 use Rattle.statements.proofs.lists.put_if.Goals as goal
 
 pub put_statement-requires : goal.put_statement-requires
-put_statement-requires c = putting_where _ c.if-stands.true c.requires
+put_statement-requires c = rw c.in-Some.is at c.requires
 
-pub returns-then-stands : goal.returns-then-stands
-returns-then-stands c = put_where _ c.if-stands.true c.put_statement.ensures
+pub returns-in-Some : goal.returns-in-Some
+returns-in-Some c = rw c.in-Some.is c.put_statement.ensures
 
-pub returns : goal.returns
-returns c = put_nowhere _ c.requires.sized c.if-stands.false
+pub returns-in-None : goal.returns-in-None
+returns-in-None c = rw c.in-None.is (nothing_put c.requires.sized)
