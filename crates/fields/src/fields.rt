@@ -8,7 +8,7 @@ use crate::numbers::{Cursor, Variable};
 use crate::refusals::{Fault, Refusal};
 
 // A value that was found, and where the next field starts.
-#[derive(Clone, Copy)]
+#[derive(Clone, Copy, Debug, PartialEq, Eq)]
 pub struct Field<T> {
     pub value: T,
     pub next: Cursor,

@@ -15,7 +15,7 @@ pub const LARGEST_TABLE: usize = MOST_VARIABLES * MOST_VARIABLES;
 pub const MOST_REPLIES: usize = MOST_ITEMS;
 
 // The fields of a header, and where the first record starts.
-#[derive(Clone, Copy)]
+#[derive(Clone, Copy, Debug, PartialEq, Eq)]
 pub struct Header {
     pub map: u8,
     pub variables: u8,
@@ -68,12 +68,23 @@ impl Header {
     }
 }
 
+// The bits of a header's map, each for a count.
+const VARIABLES: u8 = 1;
+
+const RECORDS: u8 = 2;
+
+const QUESTIONS: u8 = 4;
+
 // Row 2 of the refusals.
 #[tactic(auto, unfolding(fields::specs::Refusals::bad_header_map, fields::specs::Tests::less))]
 fn is_bad_header_map(map: u8) -> bool
     ensures { result ≡ bad_header_map map }
 {
-    if has_bit(1, map) { 7 < map } else { true }
+    if has_bit(VARIABLES, map) {
+        7 < map
+    } else {
+        true
+    }
 }
 
 // Row 3 of the refusals.
@@ -146,8 +157,8 @@ pub fn read_header(sheet: &[u8]) -> Result<Header, Refusal>
 {
     let map = read_header_map(sheet)?;
     let variables = read_variable_count(sheet, map.next)?;
-    let records = read_count_if(has_bit(2, map.value), sheet, variables.next)?;
-    let questions = read_count_if(has_bit(4, map.value), sheet, records.next)?;
+    let records = read_count_if(has_bit(RECORDS, map.value), sheet, variables.next)?;
+    let questions = read_count_if(has_bit(QUESTIONS, map.value), sheet, records.next)?;
     Ok(Header {
         map: map.value,
         variables: variables.value,

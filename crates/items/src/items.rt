@@ -12,7 +12,7 @@ use fields::{
 };
 
 // What a record states and a question asks.
-#[derive(Clone, Copy)]
+#[derive(Clone, Copy, Debug, PartialEq, Eq)]
 pub enum Statement {
     // i ≤ j
     Ordering(Variable, Variable),
@@ -25,21 +25,21 @@ pub enum Statement {
 }
 
 // What a question asks.
-#[derive(Clone, Copy)]
+#[derive(Clone, Copy, Debug, PartialEq, Eq)]
 pub enum Question {
     // whether a statement holds
     Holds(Statement),
 }
 
 // A feature, and the child that it leads to.
-#[derive(Clone, Copy)]
+#[derive(Clone, Copy, Debug, PartialEq, Eq)]
 pub struct Edge {
     pub feature: Feature,
     pub child: Variable,
 }
 
 // The fields of a record or question, those behind the subject where their bits stand.
-#[derive(Clone, Copy)]
+#[derive(Clone, Copy, Debug, PartialEq, Eq)]
 pub struct Item {
     pub subject: Variable,
     pub target: Option<Variable>,
@@ -48,21 +48,21 @@ pub struct Item {
     pub label: Option<Label>,
 }
 
+// The bits of an item's map, each for a field behind the subject.
+const TARGET: u8 = 1;
+
+const PARTNER: u8 = 2;
+
+const EDGE: u8 = 4;
+
+const LABEL: u8 = 8;
+
 // A map other than one bit alone.
 #[tactic(auto, unfolding(fields::specs::Refusals::several_bits, fields::specs::Tests::same))]
 fn has_several_bits(map: u8) -> bool
     ensures { result ≡ several_bits map }
 {
-    if map == 1 {
-        return false;
-    }
-    if map == 2 {
-        return false;
-    }
-    if map == 4 {
-        return false;
-    }
-    map != 8
+    !matches!(map, TARGET | PARTNER | EDGE | LABEL)
 }
 
 // The sum of the bits that a place defines: 0 to 3.
@@ -159,10 +159,10 @@ fn read_label_if(stands: bool, sheet: &[u8], from: Cursor) -> Read<Option<Label>
 fn read_fields(sheet: &[u8], n: u8, map: u8, subject: Variable, from: Cursor) -> Read<Item>
     ensures { result ≡ fields_at sheet.now n map subject from }
 {
-    let target = read_variable_if(has_bit(1, map), sheet, n, from)?;
-    let partner = read_variable_if(has_bit(2, map), sheet, n, target.next)?;
-    let edge = read_edge_if(has_bit(4, map), sheet, n, partner.next)?;
-    let label = read_label_if(has_bit(8, map), sheet, edge.next)?;
+    let target = read_variable_if(has_bit(TARGET, map), sheet, n, from)?;
+    let partner = read_variable_if(has_bit(PARTNER, map), sheet, n, target.next)?;
+    let edge = read_edge_if(has_bit(EDGE, map), sheet, n, partner.next)?;
+    let label = read_label_if(has_bit(LABEL, map), sheet, edge.next)?;
     Ok(Field {
         value: Item {
             subject,
