@@ -44,3 +44,9 @@ pub as_value : {T : Type 0} {P Q : Result T Refusal → Type 0} {r : Result T Re
     → ((x : T) → Q (Ok x) → P (Ok x)) → Of P r
 as_value {r = (Ok x)} h stop go = record { holds = go x h.holds }
 as_value {r = (Err q)} h stop go = record { holds = stop q h.holds }
+
+-- what follows a chain follows its last field
+pub then_on : {T U A : Type 0} (r : Read T) (next : T → Cursor → Read U) (refused : Refusal → A) (after : U → Cursor → A)
+    → then_field (then_field r Err next) refused after ≡ then_field r refused λ v c. then_field (next v c) refused after
+then_on (Ok f) next refused after = refl
+then_on (Err q) next refused after = refl

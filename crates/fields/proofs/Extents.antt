@@ -1,16 +1,16 @@
 -- Where fields end: so many bytes behind their start, inside the sheet; and no refusal is told further on.
 use Prim.Native.Nat.{ℕ, ◌+◌, ◌≤◌, ◌<◌}
-use mathlib.Core.Bool.{Bool, true, false, false≢true}
+use mathlib.Core.Bool.{Bool, true, false}
 use mathlib.Core.List.{List}
 use mathlib.Core.Path.{◌≡◌, refl}
 use borrow.Author.Tests.{not-false}
-use lib.ListN.{length}
+use lib.ListN.{length, get_or}
 use native.Mathlib.Omega.{arith}
-use Rattle.std.specs.Prelude.{Ok, Err}
+use Rattle.std.specs.Prelude.{Option, Some, None, is_some, Ok, Err}
 use Rattle.fields.specs.declared.numbers.Cursor.{Cursor}
 use Rattle.fields.specs.declared.numbers.Variable.{Variable}
 use Rattle.fields.specs.declared.refusals.Refusal.{Refusal}
-use Rattle.fields.specs.Fields.{Read, byte_field, word_field, variable_field, word_if, variable_if, judged}
+use Rattle.fields.specs.Fields.{Read, byte_field, word_field, variable_field, field_if, ReadIf, judged}
 use Rattle.fields.specs.Refusals.{ends, bad_variable}
 use Rattle.fields.specs.Tests.{pick}
 use Rattle.fields.proofs.Chains.{Of, either, after_field}
@@ -26,9 +26,9 @@ abbrev pub FieldSpans : {T : Type 0} → List ℕ → ℕ → Cursor → (T → 
 FieldSpans s w c Fit (Ok f) = Spans s w c f.next × Fit f.value
 FieldSpans s w c Fit (Err r) = r.at ≤ c.at + w
 
--- of a byte, which lies inside
+-- of a byte, which lies inside and is the one that stands there
 abbrev pub ByteSpans : List ℕ → ℕ → Cursor → (ℕ → Type 0) → Read ℕ → Type 0
-ByteSpans s w c Fit (Ok f) = Spans s w c f.next × Fit f.value × (f.next.at ≤ length s)
+ByteSpans s w c Fit (Ok f) = Spans s w c f.next × Fit f.value × (f.next.at ≤ length s) × (get_or s c.at 0 ≡ f.value)
 ByteSpans s w c Fit (Err r) = r.at ≤ c.at + w
 
 -- a variable below n
@@ -50,7 +50,7 @@ module _ (s : List ℕ) (c : Cursor) where
   unfolding byte_field ends
   byte_spans =
       either _ _ _ (λ e. let h = less_true _ _ e in record { holds = omega arith })
-      (λ e. let h = less_false _ _ e in record { holds = (record { reaches = refl; inside = λ b. h }, tt, h) })
+      (λ e. let h = less_false _ _ e in record { holds = (record { reaches = refl; inside = λ b. h }, tt, h, refl) })
 
   pub word_spans : Of (FieldSpans s 2 c Any) (word_field s c)
   unfolding word_field ends
@@ -62,7 +62,7 @@ module _ (s : List ℕ) (c : Cursor) where
       → Of (ByteSpans s 1 c (λ v. bad v ≡ false)) (judged bad r (byte_field s c))
   judged_spans bad r near =
       after_field byte_spans (λ q h. record { holds = h }) λ v next h.
-      either _ _ _ (λ e. record { holds = near }) (λ e. record { holds = (h.0, e, h.2) })
+      either _ _ _ (λ e. record { holds = near }) (λ e. record { holds = (h.0, e, h.2, h.3) })
 
   pub variable_spans : (n : ℕ) → Of (FieldSpans s 1 c (Below n)) (variable_field s n c)
   unfolding variable_field bad_variable
@@ -70,19 +70,30 @@ module _ (s : List ℕ) (c : Cursor) where
       after_field byte_spans (λ q h. record { holds = h }) λ v next h.
       either _ _ _ (λ e. record { holds = omega arith }) (λ e. record { holds = (h.0, less_true _ _ (not-false _ e)) })
 
-  -- a field whose bit is missing takes no byte
-  pub word_if_spans : (stands : Bool) → Of (FieldSpans s (pick stands 2 0) c Any) (word_if stands s c)
-  unfolding word_if pick
-  word_if_spans true = word_spans
-  word_if_spans false = record { holds = (nothing_spans, tt) }
+-- what is there is Fit
+abbrev pub Held : {T : Type 0} → (T → Type 0) → Option T → Type 0
+Held Fit (Some v) = Fit v
+Held Fit None = Unit {0}
 
-  pub variable_if_spans : (n : ℕ) (stands : Bool)
-      → Of (FieldSpans s (pick stands 1 0) c (λ i. stands ≡ true → Below n i)) (variable_if stands s n c)
-  unfolding variable_if pick
-  variable_if_spans n true = weaken (variable_field s n c) (variable_spans n).holds
-    where
-      weaken : (r : Read Variable) → FieldSpans s 1 c (Below n) r
-          → Of (FieldSpans s 1 c (λ i. true ≡ true → Below n i)) r
-      weaken (Ok f) h = record { holds = (h.0, λ e. h.1) }
-      weaken (Err r) h = record { holds = h }
-  variable_if_spans n false = record { holds = (nothing_spans, λ e. absurd (false≢true e)) }
+-- and it is there where its bit stands
+pub record Where {T : Type 0} (stands : Bool) (Fit : T → Type 0) (value : Option T) : Type 0 where
+  pub is : is_some value ≡ stands
+  pub fit : Held Fit value
+
+-- a field whose bit is missing takes no byte
+pub if_spans : {T : Type 0} {s : List ℕ} {w : ℕ} {c : Cursor} {Fit : T → Type 0} (stands : Bool) (read : Read T)
+    → Of (FieldSpans s w c Fit) read
+    → Of (FieldSpans s (pick stands w 0) c (Where stands Fit)) (field_if stands read c)
+unfolding field_if pick
+if_spans {s = s} {c = c} false read h =
+    record { holds = (nothing_spans s c, record { is = refl; fit = tt }) }
+if_spans true (Ok f) h = record { holds = (h.holds.0, record { is = refl; fit = h.holds.1 }) }
+if_spans true (Err r) h = record { holds = h.holds }
+
+-- an answer that is known only where its bit stands is that of the field
+pub read_if_is : {T : Type 0} {Reads : Read T → Type 0} (stands : Bool) (c : Cursor) (read : Read T)
+    {answer : Read (Option T)} → ((r : Read T) → Reads r → r ≡ read) → ReadIf Reads stands c answer
+    → answer ≡ field_if stands read c
+unfolding field_if pick
+read_if_is true c read same (r, is, e) = rw (← same r is) e
+read_if_is false c read same e = e

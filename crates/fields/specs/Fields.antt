@@ -1,6 +1,6 @@
 -- One field at a cursor: looked for whole, then judged. Each answer has a `then`: it reads on behind the field, or
 -- passes the refusal on.
-use Rattle.std.specs.Prelude.{ℕ, ◌+◌, ◌*◌, Bool, List, get_or, Result, Ok, Err}
+use Rattle.std.specs.Prelude.{ℕ, ◌+◌, ◌*◌, Bool, true, false, List, get_or, Option, Some, None, Result, Ok, Err, ◌≡◌}
 use Rattle.fields.specs.declared.fields.Field.{Field}
 use Rattle.fields.specs.declared.numbers.Cursor.{Cursor}
 use Rattle.fields.specs.declared.numbers.Feature.{Feature}
@@ -61,9 +61,14 @@ variable_field s n c =
     then_field (byte_field s c) Err λ i next.
     pick (bad_variable n i) (Err (variable_refusal c)) (found (variable i) next)
 
--- a field that is there only where its bit stands: 0 where it is not
-unfoldable pub word_if : Bool → List ℕ → Cursor → Read ℕ
-word_if stands s c = pick stands (word_field s c) (found 0 c)
+-- a field that is there only where its bit stands
+abbrev pub present : {T : Type 0} → Read T → Read (Option T)
+present read = then_field read Err λ value next. found (Some value) next
 
-unfoldable pub variable_if : Bool → List ℕ → ℕ → Cursor → Read Variable
-variable_if stands s n c = pick stands (variable_field s n c) (found (variable 0) c)
+unfoldable pub field_if : {T : Type 0} → Bool → Read T → Cursor → Read (Option T)
+field_if stands read c = pick stands (present read) (found None c)
+
+-- the same, of an answer that is known only where its bit stands
+abbrev pub ReadIf : {T : Type 0} → (Read T → Type 0) → Bool → Cursor → Read (Option T) → Type 0
+ReadIf Reads true c answer = (read : Read _) × Reads read × (answer ≡ present read)
+ReadIf Reads false c answer = answer ≡ found None c

@@ -1,6 +1,6 @@
 // One field at a cursor: looked for whole, then judged, before the next.
 ghost use Rattle.std.specs.Prelude.{◌≡◌};
-ghost use Rattle.fields.specs.Fields.{word, byte_field, word_field, variable_field, word_if, variable_if};
+ghost use Rattle.fields.specs.Fields.{word, byte_field, word_field, variable_field, ReadIf};
 ghost use Rattle.fields.specs.Refusals.{cut};
 ghost use Rattle.fields.specs.Tests.{has};
 
@@ -8,7 +8,7 @@ use crate::numbers::{Cursor, Variable};
 use crate::refusals::{Fault, Refusal};
 
 // A value that was found, and where the next field starts.
-#[derive(Clone, Copy)]
+#[derive(Clone, Copy, Debug, PartialEq, Eq)]
 pub struct Field<T> {
     pub value: T,
     pub next: Cursor,
@@ -93,32 +93,20 @@ pub fn read_variable(sheet: &[u8], n: u8, from: Cursor) -> Read<Variable>
     }
 }
 
-// A two-byte field that is there only where its bit stands; 0 where it is not.
-#[tactic(auto, unfolding(crate::specs::Fields::word_if, crate::specs::Tests::pick))]
-pub fn read_word_if(stands: bool, sheet: &[u8], from: Cursor) -> Read<u16>
-    ensures { result ≡ word_if stands sheet.now from }
+// A field that is there only where its bit stands.
+pub fn read_if<T, F: FnOnce() -> Read<T>>(stands: bool, from: Cursor, read: F) -> Read<Option<T>>
+    requires { F.pre read }
+    ensures { ReadIf (F.post read) stands from result }
 {
-    if stands {
-        read_word(sheet, from)
-    } else {
-        Ok(Field {
-            value: 0,
+    if !stands {
+        return Ok(Field {
+            value: None,
             next: from,
-        })
+        });
     }
-}
-
-// A variable field that is there only where its bit stands; 0 where it is not.
-#[tactic(auto, unfolding(crate::specs::Fields::variable_if, crate::specs::Tests::pick))]
-pub fn read_variable_if(stands: bool, sheet: &[u8], n: u8, from: Cursor) -> Read<Variable>
-    ensures { result ≡ variable_if stands sheet.now n from }
-{
-    if stands {
-        read_variable(sheet, n, from)
-    } else {
-        Ok(Field {
-            value: Variable(0),
-            next: from,
-        })
-    }
+    let field = read()?;
+    Ok(Field {
+        value: Some(field.value),
+        next: field.next,
+    })
 }

@@ -20,7 +20,7 @@ impl Variable {
 }
 
 // The offset of the next field.
-#[derive(Clone, Copy)]
+#[derive(Clone, Copy, PartialEq, Eq, Debug)]
 pub struct Cursor {
     pub at: usize,
 }

@@ -2,7 +2,7 @@
 ghost use Rattle.std.specs.Prelude.{◌≡◌};
 ghost use Rattle.fields.specs.Refusals.{number_of};
 
-#[derive(Clone, Copy)]
+#[derive(Clone, Copy, Debug, PartialEq, Eq)]
 pub enum Fault {
     // 1: a field that is due is missing or incomplete; told at the sheet's length
     Cut,
@@ -25,14 +25,14 @@ pub enum Fault {
 }
 
 // What is told of a refused sheet: the fault and its offset.
-#[derive(Clone, Copy)]
+#[derive(Clone, Copy, Debug, PartialEq, Eq)]
 pub struct Refusal {
     pub fault: Fault,
     pub at: usize,
 }
 
 // Where an item stands: it decides which maps are lawful.
-#[derive(Clone, Copy)]
+#[derive(Clone, Copy, Debug, PartialEq, Eq)]
 pub enum Place {
     Record,
     Question,

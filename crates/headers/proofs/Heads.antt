@@ -1,7 +1,7 @@
 -- What a header that was read is: its counts within their limits, its end within six bytes.
 use Prim.Native.Nat.{ℕ, ◌≤◌}
-use Rattle.std.specs.Prelude.{Result, Ok, Err}
-use mathlib.Core.Bool.{Bool, true, false}
+use Rattle.std.specs.Prelude.{Option, Some, None, unwrap_or, Result, Ok, Err}
+use mathlib.Core.Bool.{Bool, false}
 use mathlib.Core.List.{List}
 use mathlib.Core.Path.{◌≡◌}
 use lib.ListN.{length}
@@ -14,7 +14,7 @@ use Rattle.fields.specs.Limits.{most_variables, most_items}
 use Rattle.fields.specs.Tests.{pick, has, same, less}
 use Rattle.fields.proofs.Chains.{Of, either, after_field}
 use Rattle.fields.proofs.Choice.{less_false, same_false, or_left, or_right, pick_most}
-use Rattle.fields.proofs.Extents.{FieldSpans, nothing_spans, word_spans, judged_spans}
+use Rattle.fields.proofs.Extents.{FieldSpans, Held, Where, if_spans, word_spans, judged_spans}
 use Rattle.headers.specs.declared.headers.Header.{Header}
 use Rattle.headers.specs.Headers.{header_map, variable_count, count_field, count_if, header_of}
 
@@ -37,10 +37,13 @@ count_spans s c =
     either _ _ _ (λ e. record { holds = omega arith }) (λ e. record { holds = (h.0, less_false _ _ e) })
 
 pub count_if_spans : (s : List ℕ) (c : Cursor) (stands : Bool)
-    → Of (FieldSpans s (pick stands 2 0) c (λ v. v ≤ most_items)) (count_if stands s c)
-unfolding count_if pick
-count_if_spans s c true = count_spans s c
-count_if_spans s c false = record { holds = (nothing_spans s c, omega arith) }
+    → Of (FieldSpans s (pick stands 2 0) c (Where stands (λ v. v ≤ most_items))) (count_if stands s c)
+unfolding count_if
+count_if_spans s c stands = if_spans stands (count_field s c) (count_spans s c)
+
+few_items : (count : Option ℕ) → Held (λ v. v ≤ most_items) count → unwrap_or count 0 ≤ most_items
+few_items (Some v) h = h
+few_items None h = omega arith
 
 counted : (n : ℕ) → bad_variable_count n ≡ false → (1 ≤ n) × (n ≤ most_variables)
 unfolding bad_variable_count
@@ -65,8 +68,8 @@ header_spans s =
       holds = record {
         some = n_is.0;
         few = n_is.1;
-        records = p₃.1;
-        questions = p₄.1;
+        records = few_items r p₃.1.fit;
+        questions = few_items k p₄.1.fit;
         near = omega (arith, pick_most (has 2 map) 2, pick_most (has 4 map) 2);
         inside = p₄.0.inside (p₃.0.inside p₂.2);
       };

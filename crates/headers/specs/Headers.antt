@@ -1,8 +1,8 @@
 -- The header: a map byte, then by rising bit the fields whose bit stands.
-use Rattle.std.specs.Prelude.{ℕ, ◌*◌, Bool, List, Result, Ok, Err}
+use Rattle.std.specs.Prelude.{ℕ, ◌*◌, Bool, List, Option, unwrap_or, Result, Ok, Err}
 use Rattle.fields.specs.declared.numbers.Cursor.{Cursor}
 use Rattle.fields.specs.declared.refusals.Refusal.{Refusal}
-use Rattle.fields.specs.Fields.{Read, cursor, found, then_field, judged, byte_field, word_field}
+use Rattle.fields.specs.Fields.{Read, cursor, found, then_field, judged, byte_field, word_field, field_if}
 use Rattle.fields.specs.Refusals.{bad_header_map, header_map_refusal, bad_variable_count, variable_count_refusal}
 use Rattle.fields.specs.Refusals.{bad_count, count_refusal}
 use Rattle.fields.specs.Limits.{most_variables, most_items}
@@ -25,17 +25,18 @@ count_field s c =
     then_field (word_field s c) Err λ count next.
     pick (bad_count count) (Err (count_refusal c)) (found count next)
 
--- it is 0 where its bit is missing
-unfoldable pub count_if : Bool → List ℕ → Cursor → Read ℕ
-count_if stands s c = pick stands (count_field s c) (found 0 c)
+-- it is there only where its bit stands
+unfoldable pub count_if : Bool → List ℕ → Cursor → Read (Option ℕ)
+count_if stands s c = field_if stands (count_field s c) c
 
+-- a count that is missing is 0
 unfoldable pub header_of : List ℕ → Result Header Refusal
 header_of s =
     then_field (header_map s) Err λ map c.
     then_field (variable_count s c) Err λ n c'.
     then_field (count_if (has 2 map) s c') Err λ records c''.
     then_field (count_if (has 4 map) s c'') Err λ questions first.
-    Ok (header map n records questions first)
+    Ok (header map n (unwrap_or records 0) (unwrap_or questions 0) first)
 
 -- how many bytes a fact table over n variables takes
 unfoldable pub size_for : ℕ → ℕ

@@ -4,7 +4,8 @@ ghost use Rattle.fields.specs.Refusals.{bad_header_map, bad_variable_count};
 ghost use Rattle.headers.specs.Headers.{header_map, variable_count, count_field, count_if, header_of, table_size, reply_count};
 
 use fields::{
-    Cursor, Fault, Field, MOST_ITEMS, MOST_VARIABLES, Read, Refusal, has_bit, read_byte, read_word,
+    Cursor, Fault, MOST_ITEMS, MOST_VARIABLES, Read, Refusal, has_bit, read_byte, read_if,
+    read_word,
 };
 
 // How many bytes the largest fact table takes.
@@ -14,7 +15,7 @@ pub const LARGEST_TABLE: usize = MOST_VARIABLES * MOST_VARIABLES;
 pub const MOST_REPLIES: usize = MOST_ITEMS;
 
 // The fields of a header, and where the first record starts.
-#[derive(Clone, Copy)]
+#[derive(Clone, Copy, Debug, PartialEq, Eq)]
 pub struct Header {
     pub map: u8,
     pub variables: u8,
@@ -67,12 +68,23 @@ impl Header {
     }
 }
 
+// The bits of a header's map, each for a count.
+const VARIABLES: u8 = 1;
+
+const RECORDS: u8 = 2;
+
+const QUESTIONS: u8 = 4;
+
 // Row 2 of the refusals.
 #[tactic(auto, unfolding(fields::specs::Refusals::bad_header_map, fields::specs::Tests::less))]
 fn is_bad_header_map(map: u8) -> bool
     ensures { result ≡ bad_header_map map }
 {
-    if has_bit(1, map) { 7 < map } else { true }
+    if has_bit(VARIABLES, map) {
+        7 < map
+    } else {
+        true
+    }
 }
 
 // Row 3 of the refusals.
@@ -131,19 +143,11 @@ fn read_count(sheet: &[u8], from: Cursor) -> Read<u16>
     Ok(count)
 }
 
-// It is 0 where its bit is missing.
-#[tactic(auto, unfolding(crate::specs::Headers::count_if, fields::specs::Tests::pick))]
-fn read_count_if(stands: bool, sheet: &[u8], from: Cursor) -> Read<u16>
+// It is there only where its bit stands.
+fn read_count_if(stands: bool, sheet: &[u8], from: Cursor) -> Read<Option<u16>>
     ensures { result ≡ count_if stands sheet.now from }
 {
-    if stands {
-        read_count(sheet, from)
-    } else {
-        Ok(Field {
-            value: 0,
-            next: from,
-        })
-    }
+    read_if(stands, from, || read_count(sheet, from))
 }
 
 // The header alone: what follows it is not judged.
@@ -153,13 +157,13 @@ pub fn read_header(sheet: &[u8]) -> Result<Header, Refusal>
 {
     let map = read_header_map(sheet)?;
     let variables = read_variable_count(sheet, map.next)?;
-    let records = read_count_if(has_bit(2, map.value), sheet, variables.next)?;
-    let questions = read_count_if(has_bit(4, map.value), sheet, records.next)?;
+    let records = read_count_if(has_bit(RECORDS, map.value), sheet, variables.next)?;
+    let questions = read_count_if(has_bit(QUESTIONS, map.value), sheet, records.next)?;
     Ok(Header {
         map: map.value,
         variables: variables.value,
-        records: records.value,
-        questions: questions.value,
+        records: records.value.unwrap_or(0),
+        questions: questions.value.unwrap_or(0),
         first: questions.next,
     })
 }

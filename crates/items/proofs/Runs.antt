@@ -71,7 +71,7 @@ unfolding items_end
 run_spans place s n zero c = record { holds = record { ahead = omega arith; near = omega arith; inside = λ h. h } }
 run_spans place s n (suc k) c =
     after_field (item_spans place s n c) (λ q h. record { holds = omega (arith, suc-mul k (most place)) }) λ x next r.
-    let w = width_most place x.map r.lawful in
+    let w = width_most place r.map r.lawful in
     as_value (run_spans place s n k next) (λ q h. omega (arith, suc-mul k (most place))) λ end h.
     record {
       ahead = omega arith;

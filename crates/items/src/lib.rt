@@ -3,4 +3,4 @@
 
 mod items;
 
-pub use items::{Item, Question, Statement, items_end, read_question, read_record};
+pub use items::{Edge, Item, Question, Statement, items_end, read_question, read_record};

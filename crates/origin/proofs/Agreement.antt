@@ -1,6 +1,6 @@
 -- For every list of bytes the crate sheet agrees with the first statement of the format: on the header, on the sheet
 -- with its refusals, and on a record's own bytes.
-use Rattle.std.specs.Prelude.{Result, Ok, Err}
+use Rattle.std.specs.Prelude.{unwrap_or, Result, Ok, Err}
 use Prim.Native.Nat.{ℕ}
 use mathlib.Core.Bool.{Bool, true, false, ◌&&◌}
 use mathlib.Core.List.{List, []}
@@ -34,7 +34,7 @@ use Rattle.origin.proofs.Runs.{questions_agree, records_agree, part_agrees}
 -- the header from its question count on, and whole
 questions_part : (s : List ℕ) (m r : ℕ) (c : Cursor) → Agrees as_header (question_part s m r c.at)
     (then_field (count_if (has 4 m) s c) Err λ questions first.
-    Ok (Heads.header m (byte_at s 1) r questions first))
+    Ok (Heads.header m (byte_at s 1) r (unwrap_or questions 0) first))
 unfolding question_part has same
 questions_part s m r c = count_agrees (λ x. x) s c _ _ _ agree agree agree agree
 

@@ -1,5 +1,5 @@
 -- One test or one field off, of both: what agrees in each case agrees with the test or the field.
-use Rattle.std.specs.Prelude.{Err}
+use Rattle.std.specs.Prelude.{Option, Some, None, Err}
 use Prim.Native.Nat.{ℕ, ◌+◌}
 use mathlib.Core.Bool.{Bool, true, false, not}
 use mathlib.Core.List.{List}
@@ -11,7 +11,7 @@ use native.Mathlib.Numerals.{add-one}
 use Rattle.fields.specs.declared.numbers.Cursor.{Cursor}
 use Rattle.fields.specs.declared.numbers.Variable.{Variable}
 use Rattle.fields.specs.declared.refusals.Refusal.{Refusal}
-use Rattle.fields.specs.Fields.{Read, cursor, variable, found, then_field, word, judged, byte_field, word_field, variable_field}
+use Rattle.fields.specs.Fields.{Read, cursor, variable, found, present, then_field, field_if, word, judged, byte_field, word_field, variable_field}
 use Rattle.fields.specs.Refusals.{cut, ends, bad_count, count_refusal, bad_variable, variable_refusal}
 use Rattle.fields.specs.Tests.{pick, less}
 use Rattle.headers.specs.Headers.{count_field, count_if}
@@ -85,20 +85,20 @@ module _ {A B L : Type 0} {f : B → A} (h : L → A) (s : List ℕ) (c : Cursor
   unfolding word_field ends less
   word_agrees next p g = rw (word_is_lem s c.at) (choice h (λ w. then_field w refused next) _ p g)
 
-  -- a count, 0 where its bit is missing
-  pub count_agrees : (stands : Bool) (next : ℕ → Cursor → B) {o x y z : L}
-      → Agrees f (h o) (next 0 c)
+  -- a count, where its bit stands
+  pub count_agrees : (stands : Bool) (next : Option ℕ → Cursor → B) {o x y z : L}
+      → Agrees f (h o) (next None c)
       → Agrees f (h x) (refused (cut s))
       → Agrees f (h y) (refused (count_refusal c))
-      → Agrees f (h z) (next (word_at s c.at) (cursor (c.at + 2)))
+      → Agrees f (h z) (next (Some (word_at s c.at)) (cursor (c.at + 2)))
       → Agrees f (h (if (not stands) o (if (is_cut s c.at 2) x (if (ltb 1024 (word_at s c.at)) y z))))
       (then_field (count_if stands s c) refused next)
-  unfolding count_if count_field bad_count word_field ends less
+  unfolding count_if field_if count_field bad_count word_field ends less
   count_agrees stands next none p q g =
       not_choice h (λ w. then_field w refused next) stands none
       (rw (word_is_lem s c.at)
-      (choice h (λ w. then_field (then_field w Err judge) refused next) _ p
-      (choice h (λ w. then_field w refused next) (less 1024 (word_at s c.at)) q g)))
+      (choice h (λ w. then_field (present (then_field w Err judge)) refused next) _ p
+      (choice h (λ w. then_field (present w) refused next) (less 1024 (word_at s c.at)) q g)))
     where
       judge : ℕ → Cursor → Read ℕ
       judge count next = pick (bad_count count) (Err (count_refusal c)) (found count next)

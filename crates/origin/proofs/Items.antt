@@ -52,7 +52,7 @@ module _ (s : List ℕ) (n m i : ℕ) where
       λ j c₁.
       var_agrees s n i _ from_child passes_child c₁ (bit 1 m) 2 (S.Statement.Compatibility (variable i)) (λ j. refl) _
       λ partner c₂.
-      child_agrees s n i _ from_label passes_label c₂ (bit 2 m) _ λ f child c₃.
+      child_agrees s n i _ from_label passes_label c₂ (bit 2 m) _ λ out c₃.
       label_agrees s n i _ (λ x. x) (λ q. refl) c₃ (bit 3 m) _ λ a c₄.
       record { is = simp (append_assoc, map-append) }
 

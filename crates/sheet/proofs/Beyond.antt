@@ -16,16 +16,17 @@ use Rattle.fields.specs.declared.numbers.Variable.{Variable}
 use Rattle.fields.specs.declared.refusals.Place.{Place}
 use Rattle.fields.specs.declared.refusals.Refusal.{Refusal}
 use Rattle.fields.specs.Fields.{Read, cursor, found, then_value, then_field, judged}
-use Rattle.fields.specs.Fields.{byte_field, word_field, variable_field, word_if, variable_if}
+use Rattle.fields.specs.Fields.{byte_field, word_field, variable_field, field_if}
 use Rattle.fields.specs.Refusals.{ends, remain}
 use Rattle.fields.specs.Tests.{pick, has}
 use Rattle.fields.proofs.Chains.{Of}
-use Rattle.fields.proofs.Choice.{is_less, not_less, pick_most}
-use Rattle.fields.proofs.Extents.{judged_spans, word_if_spans, variable_spans, variable_if_spans}
+use Rattle.fields.proofs.Choice.{is_less, not_less, pick_most, picked}
+use Rattle.fields.proofs.Extents.{judged_spans, if_spans, word_spans, variable_spans}
 use Rattle.headers.specs.declared.headers.Header.{Header}
 use Rattle.headers.specs.Headers.{header_map, variable_count, count_field, count_if, header_of}
 use Rattle.headers.proofs.Heads.{Heads, header_spans, count_if_spans}
-use Rattle.items.specs.Items.{map_field, fields_width, width, most, fields_at, item_at, items_end}
+use Rattle.items.specs.Items.{map_field, fields_width, width, most, edge_field, label_field, fields_at, item_at, items_end}
+use Rattle.items.proofs.Filled.{edge_spans, label_spans}
 use Rattle.items.proofs.Lawful.{width_most, item_spans, most_least}
 use Rattle.items.proofs.Runs.{run_spans}
 use Rattle.sheet.specs.declared.whole.TheConstants.{LONGEST_SHEET}
@@ -44,6 +45,13 @@ module _ {A : Type 0} (refused : Refusal → A) where
       → ((x : T) → Q (Ok x) → f x ≡ g x) → then_value r refused f ≡ then_value r' refused g
   same_value {r = (Ok x)} e h on = rw (← e) (on x h.holds)
   same_value {r = (Err q)} e h on = rw (← e) refl
+
+-- and so are two fields where their bit stands
+if_alike : {T : Type 0} (stands : Bool) (r r' : Read T) (c : Cursor) → (stands ≡ true → r ≡ r')
+    → field_if stands r c ≡ field_if stands r' c
+unfolding field_if pick
+if_alike true r r' c h = rw (h refl) refl
+if_alike false r r' c h = refl
 
 -- two inputs of m bytes or more that begin with the same m
 pub record Alike (m : ℕ) (s u : List ℕ) : Type 0 where
@@ -69,26 +77,28 @@ module _ {m : ℕ} {s u : List ℕ} (alike : Alike m s u) where
   unfolding variable_field
   variable_alike n c h = rw (byte_alike c h) refl
 
-  word_if_alike : (stands : Bool) (c : Cursor) → c.at + pick stands 2 0 ≤ m → word_if stands s c ≡ word_if stands u c
-  unfolding word_if pick
-  word_if_alike true c h = word_alike c h
-  word_if_alike false c h = refl
+  edge_alike : (n : ℕ) (c : Cursor) → c.at + 3 ≤ m → edge_field s n c ≡ edge_field u n c
+  unfolding edge_field
+  edge_alike n c h =
+      same_field _ (word_alike c (omega arith)) (word_spans s c) λ f c₁ p₁.
+      same_field _ (variable_alike n c₁ (omega arith)) (variable_spans s c₁ n) λ j c₂ p₂. refl
 
-  variable_if_alike : (n : ℕ) (stands : Bool) (c : Cursor) → c.at + pick stands 1 0 ≤ m
-      → variable_if stands s n c ≡ variable_if stands u n c
-  unfolding variable_if pick
-  variable_if_alike n true c h = variable_alike n c h
-  variable_if_alike n false c h = refl
+  label_alike : (c : Cursor) → c.at + 2 ≤ m → label_field s c ≡ label_field u c
+  unfolding label_field
+  label_alike c h = rw (word_alike c h) refl
 
   fields_alike : (n map : ℕ) (i : Variable) (c : Cursor) → c.at + fields_width map ≤ m
       → fields_at s n map i c ≡ fields_at u n map i c
   unfolding fields_at fields_width
   fields_alike n map i c h =
-      same_field _ (variable_if_alike n (has 1 map) c (omega arith)) (variable_if_spans s c n _) λ v₁ c₁ p₁.
-      same_field _ (variable_if_alike n (has 2 map) c₁ (omega arith)) (variable_if_spans s c₁ n _) λ v₂ c₂ p₂.
-      same_field _ (word_if_alike (has 4 map) c₂ (omega arith)) (word_if_spans s c₂ _) λ v₃ c₃ p₃.
-      same_field _ (variable_if_alike n (has 4 map) c₃ (omega arith)) (variable_if_spans s c₃ n _) λ v₄ c₄ p₄.
-      same_field _ (word_if_alike (has 8 map) c₄ (omega arith)) (word_if_spans s c₄ _) λ v₅ c₅ p₅. refl
+      same_field _ (if_alike (has 1 map) _ _ c λ e. variable_alike n c (omega (arith, picked (has 1 map) 1 e)))
+      (if_spans (has 1 map) _ (variable_spans s c n)) λ v₁ c₁ p₁.
+      same_field _ (if_alike (has 2 map) _ _ c₁ λ e. variable_alike n c₁ (omega (arith, picked (has 2 map) 1 e)))
+      (if_spans (has 2 map) _ (variable_spans s c₁ n)) λ v₂ c₂ p₂.
+      same_field _ (if_alike (has 4 map) _ _ c₂ λ e. edge_alike n c₂ (omega (arith, picked (has 4 map) 3 e)))
+      (if_spans (has 4 map) _ (edge_spans s n c₂)) λ v₃ c₃ p₃.
+      same_field _ (if_alike (has 8 map) _ _ c₃ λ e. label_alike c₃ (omega (arith, picked (has 8 map) 2 e)))
+      (if_spans (has 8 map) _ (label_spans s c₃)) λ v₄ c₄ p₄. refl
 
   item_alike : (place : Place) (n : ℕ) (c : Cursor) → c.at + most place ≤ m → item_at place s n c ≡ item_at place u n c
   unfolding item_at map_field width
@@ -106,13 +116,13 @@ module _ {m : ℕ} {s u : List ℕ} (alike : Alike m s u) where
   items_alike place n (suc left) c h =
       let step = suc-mul left (most place) in
       same_field _ (item_alike place n c (omega arith)) (item_spans place s n c) λ x next p.
-      let fits = width_most place x.map p.lawful in
+      let fits = width_most place p.map p.lawful in
       items_alike place n left next (omega arith)
 
   count_if_alike : (stands : Bool) (c : Cursor) → c.at + pick stands 2 0 ≤ m → count_if stands s c ≡ count_if stands u c
-  unfolding count_if count_field pick
-  count_if_alike true c h = rw (word_alike c h) refl
-  count_if_alike false c h = refl
+  unfolding count_if count_field
+  count_if_alike stands c h =
+      if_alike stands _ _ c λ e. rw (word_alike c (omega (arith, picked stands 2 e))) refl
 
   header_alike : 6 ≤ m → header_of s ≡ header_of u
   unfolding header_of header_map variable_count

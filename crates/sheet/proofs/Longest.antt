@@ -11,15 +11,15 @@ use Rattle.fields.specs.declared.fields.Field.{Field}
 use Rattle.fields.specs.declared.numbers.Cursor.{Cursor}
 use Rattle.fields.specs.declared.numbers.Variable.{Variable}
 use Rattle.fields.specs.declared.refusals.Place.{Place}
-use Rattle.fields.specs.Fields.{Read, cursor, word, byte_field, word_field, variable_field, word_if, variable_if}
+use Rattle.fields.specs.Fields.{Read, cursor, word, byte_field, word_field, variable_field, field_if}
 use Rattle.fields.specs.Refusals.{ends, bad_header_map, bad_variable_count, bad_count, bad_item_map, several_bits}
 use Rattle.fields.specs.Refusals.{bad_variable, remain}
 use Rattle.fields.specs.Tests.{less, same, pick, has}
 use Rattle.fields.proofs.Chains.{Of, told, either, after_field}
-use Rattle.fields.proofs.Choice.{chosen, passed, is_less, not_less, is_same, less_true}
+use Rattle.fields.proofs.Choice.{chosen, passed, is_less, not_less, is_same, less_true, picked}
 use Rattle.headers.specs.Headers.{header, header_map, variable_count, count_field, count_if, header_of}
 use Rattle.items.specs.declared.items.Item.{Item}
-use Rattle.items.specs.Items.{map_field, fields_at, item_at, items_end, fields_width, width}
+use Rattle.items.specs.Items.{map_field, edge_field, label_field, fields_at, item_at, items_end, fields_width, width}
 use Rattle.items.proofs.Lawful.{item_spans}
 use Rattle.sheet.specs.Sheets.{accepted, body_of, read_sheet, longest}
 
@@ -57,46 +57,56 @@ module _ (s : List ℕ) (n : ℕ) where
       rw (not_less (length s) (c.at + 1) h.inside, here)
       (record { holds = refl })
 
-  word_if_there : (stands : Bool) (c : Cursor) → Small s n c (pick stands 2 0)
-      → Of (There (pick stands 2 0) c) (word_if stands s c)
-  unfolding word_if word_field ends pick
-  word_if_there true c h = rw (not_less (length s) (c.at + 2) h.inside) (record { holds = refl })
-  word_if_there false c h = record { holds = omega arith }
+  word_there : (c : Cursor) → Small s n c 2 → Of (There 2 c) (word_field s c)
+  unfolding word_field ends pick
+  word_there c h = rw (not_less (length s) (c.at + 2) h.inside) (record { holds = refl })
 
-  variable_if_there : (stands : Bool) (c : Cursor) → Small s n c (pick stands 1 0)
-      → Of (There (pick stands 1 0) c) (variable_if stands s n c)
-  unfolding variable_if pick
-  variable_if_there true c h = variable_there c h
-  variable_if_there false c h = record { holds = omega arith }
+-- so is one that is there where its bit stands
+if_there : {T : Type 0} (w : ℕ) (stands : Bool) (read : Read T) (c : Cursor) → (stands ≡ true → Of (There w c) read)
+    → Of (There (pick stands w 0) c) (field_if stands read c)
+unfolding field_if pick
+if_there w true (Ok f) c h = record { holds = (h refl).holds }
+if_there w true (Err r) c h = absurd (h refl).holds
+if_there w false read c h = record { holds = omega arith }
 
 within : {s : List ℕ} {n : ℕ} {c c' : Cursor} {whole w : ℕ} → Small s n c whole → c.at ≤ c'.at
     → c'.at + w ≤ c.at + whole → Small s n c' w
 within h a b = record { inside = omega arith; below = λ o p q. h.below o (omega arith) (omega arith) }
 
+edge_there : (s : List ℕ) (n : ℕ) (c : Cursor) → Small s n c 3 → Of (There 3 c) (edge_field s n c)
+unfolding edge_field
+edge_there s n c h =
+    after_field (word_there s n c (within h (omega arith) (omega arith))) (λ q f. absurd f) λ v₁ c₁ p₁.
+    after_field (variable_there s n c₁ (within h (omega arith) (omega arith))) (λ q f. absurd f) λ v₂ c₂ p₂.
+    record { holds = omega arith }
+
+label_there : (s : List ℕ) (n : ℕ) (c : Cursor) → Small s n c 2 → Of (There 2 c) (label_field s c)
+unfolding label_field
+label_there s n c h =
+    after_field (word_there s n c h) (λ q f. absurd f) λ v next p. record { holds = p }
+
 -- an item whose map is lawful and whose other bytes are below n is found
-abbrev ItemThere : ℕ → Read Item → Type 0
-ItemThere map (Ok f) = f.value.map ≡ map
-ItemThere map (Err r) = ⊥
+abbrev IsRead : Read Item → Type 0
+IsRead (Ok f) = Unit {0}
+IsRead (Err r) = ⊥
 
 fields_there : (s : List ℕ) (n map : ℕ) (i : Variable) (c : Cursor) → Small s n c (fields_width map)
-    → Of (ItemThere map) (fields_at s n map i c)
+    → Of IsRead (fields_at s n map i c)
 unfolding fields_at fields_width
 fields_there s n map i c h =
-    after_field (variable_if_there s n (has 1 map) c (within h (omega arith) (omega arith)))
+    after_field (if_there 1 (has 1 map) _ c λ e. variable_there s n c (within h (omega arith) (omega (arith, picked (has 1 map) 1 e))))
     (λ q f. absurd f) λ v₁ c₁ p₁.
-    after_field (variable_if_there s n (has 2 map) c₁ (within h (omega arith) (omega arith)))
+    after_field (if_there 1 (has 2 map) _ c₁ λ e. variable_there s n c₁ (within h (omega arith) (omega (arith, picked (has 2 map) 1 e))))
     (λ q f. absurd f) λ v₂ c₂ p₂.
-    after_field (word_if_there s n (has 4 map) c₂ (within h (omega arith) (omega arith)))
+    after_field (if_there 3 (has 4 map) _ c₂ λ e. edge_there s n c₂ (within h (omega arith) (omega (arith, picked (has 4 map) 3 e))))
     (λ q f. absurd f) λ v₃ c₃ p₃.
-    after_field (variable_if_there s n (has 4 map) c₃ (within h (omega arith) (omega arith)))
+    after_field (if_there 2 (has 8 map) _ c₃ λ e. label_there s n c₃ (within h (omega arith) (omega (arith, picked (has 8 map) 2 e))))
     (λ q f. absurd f) λ v₄ c₄ p₄.
-    after_field (word_if_there s n (has 8 map) c₄ (within h (omega arith) (omega arith)))
-    (λ q f. absurd f) λ v₅ c₅ p₅.
-    record { holds = refl }
+    record { holds = tt }
 
 item_there : (place : Place) (s : List ℕ) (n map : ℕ) (c : Cursor) → bad_item_map place map ≡ false
     → get_or s c.at 0 ≡ map
-    → Small s n (cursor (c.at + 1)) (suc (fields_width map)) → Of (ItemThere map) (item_at place s n c)
+    → Small s n (cursor (c.at + 1)) (suc (fields_width map)) → Of IsRead (item_at place s n c)
 unfolding item_at map_field byte_field ends pick
 item_there place s n map c lawful is h =
     rw (not_less (length s) (c.at + 1) (omega arith), is, lawful)
@@ -138,7 +148,7 @@ unfolding items_end
 items_there place s n map lawful zero c h = record { end = c; is = refl; reaches = omega arith }
 items_there place s n map lawful (suc k) c h = on (item_at place s n c) refl (items_there place s n map lawful k)
   where
-    there : Of (ItemThere map) (item_at place s n c)
+    there : Of IsRead (item_at place s n c)
     there = let first = first_item s n map k c h in item_there place s n map c lawful first.0 first.1
 
     found : (f : Field Item) → item_at place s n c ≡ Ok f → f.next.at ≡ c.at + width map
@@ -149,7 +159,9 @@ items_there place s n map lawful (suc k) c h = on (item_at place s n c) refl (it
     on : (r : Read Item) → item_at place s n c ≡ r → ((c : Cursor) → Items s n map k c → Ends place s n map k c)
         → Ends place s n map (suc k) c
     on (Ok f) e rest =
-        let ahead : f.next.at ≡ c.at + width map = rw (told there e) at (told (item_spans place s n c) e).reaches in
+        let read = told (item_spans place s n c) e in
+        let same : read.map ≡ map = sym read.map_is ∙ (first_item s n map k c h).0 in
+        let ahead : f.next.at ≡ c.at + width map = rw same at read.reaches in
         found f e ahead (rest f.next (later_items s n map k c f.next ahead h))
     on (Err q) e rest = absurd (told there e)
 
@@ -255,7 +267,7 @@ module _ (s : List ℕ) (long : length s ≡ longest) (byte : (o : ℕ) → o < 
   inside o h = not_less _ _ (omega arith)
 
   header_there : header_of s ≡ Ok (header 7 128 1024 1024 (cursor 6))
-  unfolding header_of header_map variable_count count_if count_field byte_field word_field ends head pick
+  unfolding header_of header_map variable_count count_if field_if count_field byte_field word_field ends head pick
   header_there =
       rw (
         inside 1 (omega arith),

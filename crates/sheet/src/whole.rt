@@ -10,7 +10,7 @@ use items::items_end;
 pub const LONGEST_SHEET: usize = 6 + MOST_ITEMS * (9 + 5);
 
 // An accepted sheet: its header, and where its questions start.
-#[derive(Clone, Copy)]
+#[derive(Clone, Copy, Debug, PartialEq, Eq)]
 pub struct Accepted {
     pub header: Header,
     pub asked: Cursor,

@@ -1,27 +1,27 @@
 -- One statement after another in the lists.
+use Rattle.std.specs.Prelude.{Option, Some, None, option_map, option_to_list}
 use Prim.Native.Nat.{ℕ, ◌+◌, ◌<◌, ◌≤◌}
 use lib.ListN.{length, length-append}
-use mathlib.Core.Bool.{Bool, true, false}
 use mathlib.Core.List.{List, [], ◌∷◌, ◌++◌, append-nil, append_assoc}
 use mathlib.Core.Path.{◌≡◌, refl, sym, subst}
 use native.Mathlib.Omega.{arith}
 use Rattle.fields.specs.Limits.{most_variables, most_items}
-use Rattle.fields.specs.Tests.{pick, has}
 use Rattle.items.specs.declared.items.Item.{Item}
 use Rattle.items.specs.declared.items.Statement.{Statement}
-use Rattle.items.specs.Statements.{Names, AllName, stated_if, statements_of}
+use Rattle.items.specs.Statements.{Names, AllName, statements_of}
+use Rattle.items.specs.Statements.{ordering_of, compatibility_of, selection_of, labelling_of}
 use Rattle.rules.specs.Stated.{ordering, compatibility, selection, labelling}
 use Rattle.rules.specs.declared.kinds.Kind.{Kind}
 use Rattle.rules.specs.Facts.{fact}
 use Rattle.rules.proofs.Lists.{all_split}
-use Rattle.selections.specs.Listed.{selection_of}
+use Rattle.selections.specs.Listed as listed
 use Rattle.selections.proofs.Stands.{more_selections, more_selections_stand, other_than_selection}
 use Rattle.labels.specs.Labels.{NoLabelling}
 use Rattle.labels.proofs.Kept.{noted, other_kind}
 use Rattle.derivation.specs.Stands.{pair_of}
 use Rattle.derivation.proofs.Stands.{kind_cell, no_subject, more_pairs, more_pairs_stand, other_than_pair}
 use Rattle.statements.specs.declared.lists.Lists.{Lists}
-use Rattle.statements.specs.Lists.{Putting, Put, pairs_in, selections_in, pairs_room, with_pair, with_selection}
+use Rattle.statements.specs.Lists.{Putting, Put, pairs_in, selections_in, pairs_if, selections_if, pairs_room, with_pair, with_selection}
 use Rattle.statements.specs.Lists.{with_label}
 
 -- the statement of another equation
@@ -69,7 +69,7 @@ module _ (x : Lists) where
               labelled = other_kind before.labelled (selection i f j) tt;
             };
         more_pairs = omega arith;
-        more_selections = omega (arith, length-append x.selections.items (selection_of i f j ∷ []));
+        more_selections = omega (arith, length-append x.selections.items (listed.selection_of i f j ∷ []));
       }
 
   -- a label
@@ -109,29 +109,13 @@ module _ {x y : Lists} {q : Statement} (may : Putting (q ∷ []) (pairs_in q) (s
   labelling_put i a e p = let may' = putting_as e may in put_same e (rw p (one_label x i a may'.named.0))
 
 -- nothing is put
-nothing_put : {x : Lists} {pairs selections : ℕ} → Put [] pairs selections x x
+pub nothing_put : {x : Lists} {pairs selections : ℕ} → Put [] pairs selections x x
 nothing_put =
     record {
       stand = λ n st named before. rw (append-nil st) before;
       more_pairs = omega arith;
       more_selections = omega arith;
     }
-
--- a statement where its bit stands, and where it does not
-module _ {x : Lists} (q : Statement) {stands : Bool} where
-  pub putting_where : stands ≡ true → Putting (stated_if stands q) (pairs_in q) (selections_in q) x
-      → Putting (q ∷ []) (pairs_in q) (selections_in q) x
-  unfolding pick
-  putting_where e p = subst (λ b. Putting (stated_if b q) (pairs_in q) (selections_in q) x) e p
-
-  pub put_where : {y : Lists} → stands ≡ true → Put (q ∷ []) (pairs_in q) (selections_in q) x y
-      → Put (stated_if stands q) (pairs_in q) (selections_in q) x y
-  unfolding pick
-  put_where {y} e p = subst (λ b. Put (stated_if b q) (pairs_in q) (selections_in q) x y) (sym e) p
-
-  pub put_nowhere : stands ≡ false → Put (stated_if stands q) (pairs_in q) (selections_in q) x x
-  unfolding pick
-  put_nowhere e = subst (λ b. Put (stated_if b q) (pairs_in q) (selections_in q) x x) (sym e) nothing_put
 
 -- some statements, then others
 put_both : {xs ys : List Statement} {pairs selections pairs' selections' : ℕ} {x y z : Lists}
@@ -149,16 +133,16 @@ put_both {xs} {ys} first second =
 -- the statements of a record, kind by kind
 module _ (x : Item) where
   abbrev first : List Statement
-  first = stated_if (has 1 x.map) (Statement.Ordering x.subject x.target)
+  first = option_to_list (ordering_of x)
 
   abbrev second : List Statement
-  second = stated_if (has 2 x.map) (Statement.Compatibility x.subject x.partner)
+  second = option_to_list (compatibility_of x)
 
   abbrev third : List Statement
-  third = stated_if (has 4 x.map) (Statement.Selection x.subject x.feature x.child)
+  third = option_to_list (selection_of x)
 
   abbrev fourth : List Statement
-  fourth = stated_if (has 8 x.map) (Statement.Labelling x.subject x.label)
+  fourth = option_to_list (labelling_of x)
 
   -- each kind names variables below m where all do
   pub record Each (m : ℕ) : Type 0 where
@@ -181,14 +165,48 @@ module _ (x : Item) where
   unfolding statements_of
   record_put p q r s = put_both p (put_both q (put_both r s))
 
--- one statement of a record is to be put
-pub putting_if : {a : Lists} (q : Statement) {stands bit : Bool} → stands ≡ bit
-    → AllName most_variables (stated_if bit q)
-    → length a.pairs.items + pairs_in q ≤ pairs_room → length a.selections.items + selections_in q ≤ most_items
-    → Putting (stated_if stands q) (pairs_in q) (selections_in q) a
-putting_if q e named room room' = record { named = rw e named; pairs_fit = room; selections_room = room' }
+-- a statement that may be there takes so many pairs and selections at most
+pub record Takes (q : Option Statement) (pairs selections : ℕ) : Type 0 where
+  pub pairs_most : pairs_if q ≤ pairs
+  pub selections_most : selections_if q ≤ selections
 
-pub put_as : {a b : Lists} (q : Statement) {stands bit : Bool} → stands ≡ bit
-    → Put (stated_if stands q) (pairs_in q) (selections_in q) a b
-    → Put (stated_if bit q) (pairs_in q) (selections_in q) a b
-put_as {a} {b} q e p = subst (λ s. Put (stated_if s q) (pairs_in q) (selections_in q) a b) e p
+takes : {T : Type 0} (make : T → Statement) (pairs selections : ℕ) → ((v : T) → pairs_in (make v) ≤ pairs)
+    → ((v : T) → selections_in (make v) ≤ selections) → (value : Option T) → Takes (option_map make value) pairs selections
+takes make pairs selections p s (Some v) = record { pairs_most = p v; selections_most = s v }
+takes make pairs selections p s None = record { pairs_most = omega arith; selections_most = omega arith }
+
+module _ (x : Item) where
+  pub ordering_takes : Takes (ordering_of x) 1 0
+  ordering_takes = takes _ 1 0 (λ v. omega arith) (λ v. omega arith) x.target
+
+  pub compatibility_takes : Takes (compatibility_of x) 1 0
+  compatibility_takes = takes _ 1 0 (λ v. omega arith) (λ v. omega arith) x.partner
+
+  pub selection_takes : Takes (selection_of x) 0 1
+  selection_takes = takes _ 0 1 (λ v. omega arith) (λ v. omega arith) x.edge
+
+  pub labelling_takes : Takes (labelling_of x) 0 0
+  labelling_takes = takes _ 0 0 (λ v. omega arith) (λ v. omega arith) x.label
+
+-- one statement of a record is to be put
+pub putting_if : {a : Lists} {q o : Option Statement} {pairs selections : ℕ} → q ≡ o → Takes o pairs selections
+    → AllName most_variables (option_to_list o)
+    → length a.pairs.items + pairs ≤ pairs_room → length a.selections.items + selections ≤ most_items
+    → Putting (option_to_list q) (pairs_if q) (selections_if q) a
+putting_if {a} {q} {o} e t named room room' =
+    subst (λ y. Putting (option_to_list y) (pairs_if y) (selections_if y) a) (sym e)
+    (record {
+      named = named;
+      pairs_fit = omega (arith, t.pairs_most, room);
+      selections_room = omega (arith, t.selections_most, room');
+    })
+
+pub put_as : {a b : Lists} {q o : Option Statement} {pairs selections : ℕ} → q ≡ o → Takes o pairs selections
+    → Put (option_to_list q) (pairs_if q) (selections_if q) a b → Put (option_to_list o) pairs selections a b
+put_as {a} {b} {q} {o} e t p =
+    let p' = subst (λ y. Put (option_to_list y) (pairs_if y) (selections_if y) a b) e p in
+    record {
+      stand = p'.stand;
+      more_pairs = omega (arith, p'.more_pairs, t.pairs_most);
+      more_selections = omega (arith, p'.more_selections, t.selections_most);
+    }

@@ -1,5 +1,6 @@
 -- The lists in which statements stand: pairs, selections and labels.
 use Rattle.std.specs.Prelude.{ℕ, ◌+◌, ◌*◌, ◌≤◌, length, List, [], ◌∷◌, ◌++◌, Ok, ◌≡◌}
+use Rattle.std.specs.Prelude.{Option, option_map, unwrap_or}
 use Rattle.fields.specs.Limits.{most_variables, most_items}
 use Rattle.items.specs.declared.items.Statement.{Statement}
 use Rattle.items.specs.Statements.{AllName}
@@ -46,6 +47,13 @@ selections_in (Statement.Ordering i j) = 0
 selections_in (Statement.Compatibility i j) = 0
 selections_in (Statement.Selection i f j) = 1
 selections_in (Statement.Labelling i a) = 0
+
+-- how many a statement is that may be there
+abbrev pub pairs_if : Option Statement → ℕ
+pairs_if q = unwrap_or (option_map pairs_in q) 0
+
+abbrev pub selections_if : Option Statement → ℕ
+selections_if q = unwrap_or (option_map selections_in q) 0
 
 -- statements can be put into the lists: they name variables that there may be, and there is room for so many pairs and
 -- selections more

@@ -1,13 +1,14 @@
 // The lists in which statements stand, one statement after another.
-ghost use Rattle.std.specs.Prelude.{◌<◌, length, replicate, [], ◌∷◌, ◌≡◌};
+ghost use Rattle.std.specs.Prelude.{◌<◌, length, replicate, [], ◌∷◌, ◌≡◌, option_to_list};
 ghost use Rattle.fields.specs.Limits.{most_variables, most_items};
-ghost use Rattle.items.specs.Statements.{statements_of, stated_if};
+ghost use Rattle.items.specs.Statements.{statements_of};
 ghost use Rattle.labels.specs.declared.spread.Spread.{Spread};
-ghost use Rattle.statements.specs.Lists.{pairs_room, with_pair, with_selection, pairs_in, selections_in, Putting, Put};
+ghost use Rattle.statements.specs.Lists.{pairs_room, with_pair, with_selection, pairs_in, selections_in};
+ghost use Rattle.statements.specs.Lists.{pairs_if, selections_if, Putting, Put};
 
 use arrayvec::ArrayVec;
 use derivation::Pair;
-use fields::{Feature, MOST_ITEMS, Variable, has_bit};
+use fields::{Feature, MOST_ITEMS, Variable};
 use items::{Item, Statement};
 use labels::Labels;
 use selections::Selection;
@@ -73,12 +74,12 @@ impl Lists {
         }
     }
 
-    // Puts a statement behind the others where its bit stands.
-    fn put_if(&mut self, stands: bool, q: Statement)
-        requires { Putting (stated_if stands q) (pairs_in q) (selections_in q) self.old }
-        ensures { Put (stated_if stands q) (pairs_in q) (selections_in q) self.old self.new }
+    // Puts a statement behind the others where there is one.
+    fn put_if(&mut self, q: Option<Statement>)
+        requires { Putting (option_to_list q) (pairs_if q) (selections_if q) self.old }
+        ensures { Put (option_to_list q) (pairs_if q) (selections_if q) self.old self.new }
     {
-        if stands {
+        if let Some(q) = q {
             self.put(q);
         }
     }
@@ -88,13 +89,9 @@ impl Lists {
         requires { Putting (statements_of x) 2 1 self.old }
         ensures { Put (statements_of x) 2 1 self.old self.new }
     {
-        let i = x.subject;
-        self.put_if(has_bit(1, x.map), Statement::Ordering(i, x.target));
-        self.put_if(has_bit(2, x.map), Statement::Compatibility(i, x.partner));
-        self.put_if(
-            has_bit(4, x.map),
-            Statement::Selection(i, x.feature, x.child),
-        );
-        self.put_if(has_bit(8, x.map), Statement::Labelling(i, x.label));
+        self.put_if(x.ordering());
+        self.put_if(x.compatibility());
+        self.put_if(x.selection());
+        self.put_if(x.labelling());
     }
 }

@@ -5,22 +5,14 @@ ghost use Rattle.sheet.specs.Sheets.{sheet_of};
 ghost use Rattle.rules.specs.Replies.{stated_label};
 ghost use Rattle.statements.specs.Stated.{label_in, stated_from};
 
-use sheet::{Cursor, Item, Label, Variable, has_bit, read_record, read_sheet};
+use sheet::{Cursor, Item, Label, Variable, read_record, read_sheet};
 
 // The label that a record states for a variable.
 #[tactic(auto, using(crate::proofs::Labelled::record_label))]
 fn label_of(x: Item, i: Variable) -> Option<Label>
     ensures { label_in result ≡ stated_label (statements_of x) i.0 }
 {
-    let map = x.map;
-    let subject = x.subject;
-    if !has_bit(8, map) {
-        return None;
-    }
-    if subject.0 != i.0 {
-        return None;
-    }
-    Some(x.label)
+    if x.subject.0 == i.0 { x.label } else { None }
 }
 
 // The first label that so many records from a cursor on state for a variable.

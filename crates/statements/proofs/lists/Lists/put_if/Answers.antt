@@ -1,12 +1,9 @@
--- The bit stands, or it does not.
-use Rattle.statements.proofs.Putting.{putting_where, put_where, put_nowhere}
+-- There is a statement, or there is none.
+use Rattle.statements.proofs.Putting.{nothing_put}
 use Rattle.statements.proofs.lists.Lists.put_if.Goals as goal
 
 pub put-requires : goal.put-requires
-put-requires c = putting_where _ c.if-stands.true c.requires
+put-requires c = rw c.in-Some.is at c.requires
 
-pub returns-then-stands : goal.returns-then-stands
-returns-then-stands c = put_where _ c.if-stands.true c.put.ensures
-
-pub returns-else-stands : goal.returns-else-stands
-returns-else-stands c = put_nowhere _ c.if-stands.false
+pub returns-in-Some : goal.returns-in-Some
+returns-in-Some c = rw c.in-Some.is c.put.ensures
