@@ -5,7 +5,7 @@ use mathlib.Core.List.{List, [], ◌∷◌, ◌++◌}
 use mathlib.Core.Path.{◌≡◌, sym, ap, ◌∙◌}
 use Rattle.std.specs.Prelude.{Option, None, is_some}
 use Rattle.items.specs.declared.items.Statement.{Statement}
-use Rattle.items.specs.Statements.{Names, AllName}
+use Rattle.items.specs.Statements.{AllName}
 use Rattle.rules.specs.declared.clashes.Clash.{Clash}
 use Rattle.rules.specs.declared.kinds.Kind.{Kind}
 use Rattle.rules.specs.Tables.{facts, count_facts}

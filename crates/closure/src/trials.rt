@@ -82,7 +82,14 @@ fn clash_queued(growth: &Growth, labels: &Labels, from: usize) -> bool
 }
 
 // Whether a fact on trial clashes, tried in a copy of the closed table.
-fn fact_clashes(closed: &Closed, growth: &mut Growth, groups: &Groups, w: u8, i: usize, j: usize) -> bool
+fn fact_clashes(
+    closed: &Closed,
+    growth: &mut Growth,
+    groups: &Groups,
+    w: u8,
+    i: usize,
+    j: usize,
+) -> bool
     requires trying { TryingFact growth.old.n growth.old.cells.now growth.old.queue.now.items groups.now w i j }
     requires sizes { variables_of closed.now ≡ growth.old.n }
     requires copied { growth.old.cells.now ≡ table_of closed.now }
@@ -130,9 +137,22 @@ fn try_statement(closed: &Closed, growth: &mut Growth, groups: &mut Groups, q: S
 {
     match q {
         Statement::Ordering(i, j) => fact_clashes(closed, growth, groups, 1, i.index(), j.index()),
-        Statement::Compatibility(i, j) => fact_clashes(closed, growth, groups, 2, i.index(), j.index()),
+        Statement::Compatibility(i, j) => fact_clashes(
+            closed,
+            growth,
+            groups,
+            2,
+            i.index(),
+            j.index(),
+        ),
         Statement::Selection(i, feature, variable) => {
-            selection_clashes(closed, growth, groups, i.index(), Child { feature, variable })
+            selection_clashes(
+                closed,
+                growth,
+                groups,
+                i.index(),
+                Child { feature, variable },
+            )
         }
         Statement::Labelling(i, a) => label_clashes(closed.table, closed.labels, i.index(), a),
     }

@@ -103,13 +103,7 @@ fn hand_down(growth: &mut Growth, groups: &Groups, w: u8, u: usize, v: usize)
     let rows = groups.groups[u];
     let others = groups.groups[v];
     let mut from = rows.start;
-    while let Some(at) = seek_row(
-        growth,
-        groups,
-        w,
-        from..rows.end,
-        others.start..others.end,
-    ) {
+    while let Some(at) = seek_row(growth, groups, w, from..rows.end, others.start..others.end) {
         let child = groups.children[at];
         tell_all(growth, groups, w, child.feature, child.variable.index(), v);
         from = at + 1;

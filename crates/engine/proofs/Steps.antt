@@ -3,12 +3,10 @@ use Prim.Native.Nat.{ℕ}
 use lib.ListN.{length, replicate}
 use mathlib.Core.List.{List, map}
 use mathlib.Core.Path.{◌≡◌, sym, ap, subst, ◌∙◌}
-use Rattle.std.specs.Prelude.{Option, None}
 use Rattle.items.specs.Statements.{AllName}
 use Rattle.sheet.specs.declared.whole.Accepted.{Accepted}
 use Rattle.sheet.specs.Sheets.{sheet_of}
 use Rattle.sheet.proofs.Theorems.{accepted_variables, accepted_stated}
-use Rattle.rules.specs.declared.clashes.Clash.{Clash}
 use Rattle.rules.specs.declared.verdicts.Verdict.{Verdict}
 use Rattle.rules.specs.Derived.{derived}
 use Rattle.rules.specs.Clashes.{clash_of}

@@ -40,7 +40,12 @@ fn close(facts: &mut [u8], n: usize, lists: &Lists, groups: &mut Groups, queue: 
         n,
         queue,
     };
-    make(&mut growth, groups, lists.pairs.as_slice(), lists.selections.as_slice());
+    make(
+        &mut growth,
+        groups,
+        lists.pairs.as_slice(),
+        lists.selections.as_slice(),
+    );
 }
 
 // The replies to all questions of consistent statements, tried in a copy of their table, which is cleared then.
@@ -115,7 +120,15 @@ fn check_accepted(
     close(facts, n, &lists, &mut groups, &mut queue);
     let table = Table { cells: facts, n };
     let closed = Closed::new(&table, lists.selections.as_slice(), &lists.labels);
-    answer(sheet, accepted, &closed, &mut groups, work, &mut queue, replies);
+    answer(
+        sheet,
+        accepted,
+        &closed,
+        &mut groups,
+        work,
+        &mut queue,
+        replies,
+    );
     outcome_of(Verdict::from(closed.clash), &table)
 }
 

@@ -1,6 +1,5 @@
 -- From the closed table to the least one that is closed with the selection, which is taken out again.
 use Rattle.std.proofs.Common.{◌∙◌, refl}
-use Rattle.facts.proofs.Growing.{same_then}
 use Rattle.selections.proofs.Theorems.{taken_groups}
 use Rattle.closure.proofs.TryingSelection.{selection_may_run, selection_is_tried}
 use Rattle.closure.proofs.trials.try_selection.Goals as goal

@@ -1,5 +1,5 @@
 -- The table, what is known of it, then the replies.
-use Rattle.std.proofs.Common.{ap, sym, ◌∙◌, arith}
+use Rattle.std.proofs.Common.{ap, ◌∙◌, arith}
 use Rattle.table.specs.declared.table.Table.{Table}
 use Rattle.labels.specs.declared.labels.Labels.{Labels}
 use Rattle.engine.proofs.Steps.{lists_answering, lists_filled}
