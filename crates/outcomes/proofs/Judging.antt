@@ -5,12 +5,10 @@ use mathlib.Core.Bool.{◌||◌}
 use mathlib.Core.List.{List}
 use mathlib.Core.Path.{◌≡◌, refl}
 use native.Mathlib.Omega.{arith}
-use Rattle.fields.specs.declared.numbers.Cursor.{Cursor}
 use Rattle.fields.specs.declared.refusals.Refusal.{Refusal}
 use Rattle.fields.specs.Refusals.{short_table, short_replies}
 use Rattle.fields.specs.Tests.{less, pick}
 use Rattle.fields.proofs.Choice.{less_false, or_left, or_right}
-use Rattle.headers.specs.declared.headers.Header.{Header}
 use Rattle.headers.specs.Headers.{table_size, reply_count}
 use Rattle.sheet.specs.declared.whole.Accepted.{Accepted}
 use Rattle.sheet.specs.Sheets.{read_sheet, longest}

@@ -1,11 +1,9 @@
 -- All rows of the refusals: those of the sheet, then the lent buffers against it.
 use Rattle.std.specs.Prelude.{ℕ, ◌||◌, List, Result, Ok, Err}
-use Rattle.fields.specs.declared.numbers.Cursor.{Cursor}
 use Rattle.fields.specs.declared.refusals.Refusal.{Refusal}
 use Rattle.fields.specs.Fields.{then_value}
 use Rattle.fields.specs.Refusals.{short_table, table_refusal, short_replies, replies_refusal}
 use Rattle.fields.specs.Tests.{pick}
-use Rattle.headers.specs.declared.headers.Header.{Header}
 use Rattle.headers.specs.Headers.{table_size, reply_count}
 use Rattle.sheet.specs.declared.whole.Accepted.{Accepted}
 use Rattle.sheet.specs.Sheets.{read_sheet}

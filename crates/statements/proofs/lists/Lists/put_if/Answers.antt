@@ -1,5 +1,4 @@
 -- There is a statement, or there is none.
-use Rattle.statements.proofs.Putting.{nothing_put}
 use Rattle.statements.proofs.lists.Lists.put_if.Goals as goal
 
 pub put-requires : goal.put-requires
