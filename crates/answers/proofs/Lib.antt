@@ -1,5 +1,6 @@
 -- Laws of what is told of a closed fact table.
 pub mod Logic
+pub mod Ranges
 pub mod Clashed
 pub mod OneLabel
 pub mod Shown

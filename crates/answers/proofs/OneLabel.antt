@@ -1,38 +1,55 @@
 -- One label more: the derived facts stay, and a clash is one with a label that was stated. Where nothing clashes no
 -- variable has two different labels.
 use Prim.Native.Nat.{ℕ, ◌<◌}
-use lib.ListN.{get_or}
-use mathlib.Core.Bool.{Bool, true, false}
+use mathlib.Core.Bool.{Bool, true, false, ◌&&◌}
 use mathlib.Core.List.{List, [], ◌∷◌, ◌++◌}
-use mathlib.Core.Path.{◌≡◌, sym, ap, subst, ◌∙◌}
-use native.Mathlib.Omega.{arith}
-use Rattle.fields.specs.Tests.{less}
-use Rattle.fields.proofs.Choice.{less_true, less_false}
+use mathlib.Core.Path.{◌≡◌, refl, sym, ap, subst, ◌∙◌}
+use Rattle.std.specs.List.{list_any, range_with_len}
 use Rattle.items.specs.declared.items.Statement.{Statement}
 use Rattle.items.specs.Statements.{Names, AllName}
 use Rattle.rules.specs.Connectives.{◌and◌}
 use Rattle.rules.specs.Stated.{labelling, Stated, any_below}
-use Rattle.rules.specs.Facts.{Kind, ordered, compatible, Relation, fact, Closed}
+use Rattle.rules.specs.declared.kinds.Kind.{Kind}
+use Rattle.rules.specs.Facts.{Relation, fact, Closed}
 use Rattle.rules.specs.Tables.{facts}
 use Rattle.rules.specs.Derived.{derived, facts_of}
 use Rattle.rules.specs.Clashes.{labels_differ, clashes_at, clashes}
-use Rattle.rules.proofs.Logic.{both, first_of_and, second_of_and, decided, contrary, same_tests}
+use Rattle.rules.proofs.Logic.{both, first_of_and, second_of_and, decided, refuted, contrary, same_tests}
 use Rattle.rules.proofs.Some.{below_by, below_one}
 use Rattle.rules.proofs.Lists.{all_with}
 use Rattle.rules.proofs.More.{still, last_stated, stated_of}
 use Rattle.rules.proofs.Derived.{smallest, derived_shape, derived_closed, is_derived}
 use Rattle.rules.proofs.Clashing.{differ_by, differ_of, clashing, not_clashing}
+use Rattle.labels.specs.declared.spread.Spread.{Spread}
+use Rattle.labels.specs.Spreads.{spread_at, has_other}
 use Rattle.labels.specs.Labels.{LabelsStand, NoLabelling, other_stated}
-use Rattle.labels.proofs.Kept.{subject_of, label_of, other_by, other_of}
+use Rattle.labels.proofs.Kept.{subject_of, label_of, other_by, other_of, other_told, several_two}
 use Rattle.answers.specs.Supports.{SingleLabels}
+use Rattle.answers.proofs.Ranges.{any_in_range, same_below}
 
 -- j is alike to i and has a label other than a
 unfoldable pub meets : Relation → List Statement → ℕ → ℕ → ℕ → Bool
-meets r st i a j = r compatible i j and other_stated st j a
+meets r st i a j = r Kind.Compatible i j and other_stated st j a
+
+-- the same by the spreads of labels
+abbrev pub met_at : Relation → List Spread → ℕ → ℕ → ℕ → Bool
+met_at r spreads i a j = r Kind.Compatible i j && has_other (spread_at spreads j) a
+
+same_met : (a : Bool) {b c : Bool} → b ≡ c → a && b ≡ a and c
+unfolding ◌and◌
+same_met true e = e
+same_met false e = refl
+
+pub met_sought : {n : ℕ} (r : Relation) {st : List Statement} {spreads : List Spread} → LabelsStand n st spreads
+    → (i a : ℕ) → list_any (met_at r spreads i a) (range_with_len 0 n) ≡ any_below n (meets r st i a)
+unfolding meets
+met_sought {n} r {st} {spreads} stand i a =
+    any_in_range (met_at r spreads i a) n
+    ∙ same_below n (met_at r spreads i a) _ λ j h. same_met (r Kind.Compatible i j) (other_told (stand.at j h) a)
 
 pub no_label : (kind : Kind) (i j : ℕ) → NoLabelling (fact kind i j)
-no_label ordered i j = tt
-no_label compatible i j = tt
+no_label Kind.Ordered i j = tt
+no_label Kind.Compatible i j = tt
 
 -- what is closed by more statements, labels aside, is closed by fewer
 pub fewer_closed : {n : ℕ} {st st' : List Statement} {R : Kind → ℕ → ℕ → Type 0}
@@ -63,11 +80,13 @@ module _ (n : ℕ) (st : List Statement) (names : AllName n st) (i a : ℕ) (h :
   pub same_derived : derived st n ≡ derived (st ++ (labelling i a ∷ [])) n
   unfolding list_with_label
   same_derived =
-      is_derived n list_with_label (derived st n) (derived_shape n st) (fewer_closed no_more (derived_closed n st names))
+      is_derived n list_with_label (derived st n) (derived_shape n st)
+      (fewer_closed no_more (derived_closed n st names))
       (smallest n st _ (fewer_closed (λ x other s. still _ s) (derived_closed n list_with_label names_more)))
 
   -- where a pair clashes there is a clash
-  clash_at : (x y : ℕ) → x < n → y < n → facts_of st n compatible x y ≡ true → labels_differ list_with_label x y ≡ true
+  clash_at : (x y : ℕ) → x < n → y < n → facts_of st n Kind.Compatible x y ≡ true
+      → labels_differ list_with_label x y ≡ true
       → clashes list_with_label n ≡ true
   unfolding list_with_label clashes_at
   clash_at x y g g' p d =
@@ -78,11 +97,11 @@ module _ (n : ℕ) (st : List Statement) (names : AllName n st) (i a : ℕ) (h :
   unfolding list_with_label meets
   met p =
       below_one n _ p λ j g test.
-      other_of st j a (second_of_and (facts_of st n compatible i j) _ test) λ b s d.
+      other_of st j a (second_of_and (facts_of st n Kind.Compatible i j) _ test) λ b s d.
       clash_at i j h g (first_of_and _ _ test) (differ_by (last_stated st _) (still _ s) d)
 
   -- of two labels that clash one is the last, and the other was stated
-  meets_by : (x b : ℕ) → x < n → facts_of st n compatible i x ≡ true → Stated st (labelling x b) → (a ≡ b → ⊥)
+  meets_by : (x b : ℕ) → x < n → facts_of st n Kind.Compatible i x ≡ true → Stated st (labelling x b) → (a ≡ b → ⊥)
       → any_below n (meets (facts_of st n) st i a) ≡ true
   unfolding meets
   meets_by x b g p s d = below_by _ n x g (both p (other_by s d))
@@ -91,7 +110,7 @@ module _ (n : ℕ) (st : List Statement) (names : AllName n st) (i a : ℕ) (h :
   unfolding list_with_label clashes_at
   clashed clear p =
       clashing list_with_label n p λ x y least.
-      let alike : facts_of st n compatible x y ≡ true = rw same_derived (first_of_and _ _ least.applies) in
+      let alike : facts_of st n Kind.Compatible x y ≡ true = rw same_derived (first_of_and _ _ least.applies) in
       let turned = (derived_closed n st names).symmetric x y alike in
       differ_of list_with_label x y (second_of_and _ _ least.applies) λ b c s s' d.
       stated_of st _ s
@@ -110,18 +129,16 @@ module _ (n : ℕ) (st : List Statement) (names : AllName n st) (i a : ℕ) (h :
   label_clash t e clear = rw e (same_tests _ _ met (clashed clear))
 
 -- i ~ i, so two different labels of i clash
-pub single_labels_lem : {n : ℕ} {st : List Statement} {counts labels : List ℕ} → LabelsStand n st counts labels
-    → AllName n st → clashes st n ≡ false → SingleLabels n counts
+pub single_labels_lem : {n : ℕ} {st : List Statement} {spreads : List Spread} → LabelsStand n st spreads
+    → AllName n st → clashes st n ≡ false → SingleLabels n spreads
 unfolding clashes_at
-single_labels_lem {n} {st} {counts} stand names clear =
+single_labels_lem {n} {st} stand names clear =
     record {
       single = λ i h.
-          decided (less (get_or counts i 0) 2) (less_true _ _) λ p.
-          let several = less_false _ _ p in
-          let at = stand.at i h in
-          let found = at.other (omega arith) in
-          absurd (contrary
-          (both ((derived_closed n st names).reflexive compatible i h)
-          (differ_by found.stated (at.first (omega arith)) found.differs))
-          (not_clashing st n clear i i h h));
+          refuted _ λ p.
+          let two = several_two (stand.at i h) p in
+          contrary
+          (both ((derived_closed n st names).reflexive Kind.Compatible i h)
+          (differ_by two.first_stated two.second_stated two.differs))
+          (not_clashing st n clear i i h h);
     }

@@ -1,89 +1,144 @@
--- What shows support, sought in the lists that keep selections and labels.
-use borrow.Author.Tests.{not-true}
-use Prim.Native.Nat.{ℕ}
+-- What shows support, sought in the list of selections and among the variables.
+use Prim.Native.Nat.{ℕ, ◌<◌}
 use lib.ListN.{length, get_or}
-use mathlib.Core.Bool.{Bool, true, false, not}
+use mathlib.Core.Bool.{Bool, true, false, ◌&&◌, false≢true}
 use mathlib.Core.List.{List}
-use mathlib.Core.Path.{◌≡◌, refl, sym, ap, subst}
-use native.Mathlib.Omega.{arith}
-use Rattle.fields.specs.Tests.{same, pick}
-use Rattle.fields.proofs.Choice.{is_same, not_same, same_true, same_false}
+use mathlib.Core.Path.{◌≡◌, refl, sym, ap, ◌∙◌}
+use Rattle.std.specs.Cmp.Derive.{both_true}
+use Rattle.std.specs.List.{list_any, range_with_len}
+use Rattle.std.proofs.lemmas.List.{get_or_default}
+use Rattle.std.proofs.lemmas.List.Folds.{list_any_at}
+use Rattle.fields.specs.declared.numbers.Feature.{Feature}
+use Rattle.fields.specs.declared.numbers.Label.{Label}
+use Rattle.fields.specs.declared.numbers.Variable.{Variable}
+use Rattle.fields.specs.Tests.{same}
+use Rattle.fields.proofs.Choice.{is_same, same_true}
 use Rattle.items.specs.declared.items.Statement.{Statement}
-use Rattle.rules.specs.Connectives.{◌and◌}
-use Rattle.rules.specs.Stated.{selection, labelling, Stated, any_below}
-use Rattle.rules.specs.Facts.{ordered, Relation}
+use Rattle.rules.specs.Stated.{selection, Stated}
+use Rattle.rules.specs.declared.kinds.Kind.{Kind}
+use Rattle.rules.specs.Facts.{Relation}
 use Rattle.rules.specs.Tables.{facts}
 use Rattle.rules.specs.Support.{under_child, over_child, under_label, supported}
-use Rattle.rules.proofs.Logic.{both, first_of_and, second_of_and, same_tests}
-use Rattle.rules.proofs.Some.{below_by, below_one, by_selection_at, one_selection_at}
+use Rattle.rules.proofs.Logic.{same_tests}
+use Rattle.rules.proofs.Some.{below_by, below_one}
 use Rattle.rules.proofs.Tables.{fact_row}
-use Rattle.rules.proofs.Supported.{label_by, label_under}
-use Rattle.selections.specs.Listed.{Selections, Listed}
+use Rattle.rules.proofs.Supported.{under_by, over_by, under_of, over_of, label_by, label_under}
+use Rattle.selections.specs.declared.listed.Selection.{Selection}
+use Rattle.selections.specs.Listed.{selection_of, selection_at, Selections, Listed}
 use Rattle.selections.specs.Stands.{SelectionsStand}
+use Rattle.labels.specs.declared.spread.Spread.{Spread}
+use Rattle.labels.specs.Spreads.{spread_at, is_only}
 use Rattle.labels.specs.Labels.{LabelsStand}
-use Rattle.answers.specs.Supports.{SingleLabels, ordered_so, child_shown}
+use Rattle.labels.proofs.Kept.{only_stated, stated_only}
+use Rattle.answers.specs.Supports.{SingleLabels, IsSelection, is_under, is_over, LabelTold, SupportTold}
 use Rattle.answers.proofs.Logic.{fails_first, second_decides}
+use Rattle.answers.proofs.Ranges.{passing_at, any_in_range}
 
--- the selection at x is at f and relates its fields to i and j
-unfoldable pub child_at : Bool → Relation → List ℕ → List ℕ → List ℕ → ℕ → ℕ → ℕ → ℕ → Bool
-child_at turned r subjects features children i f j x =
-    same f (get_or features x 0)
-    and (ordered_so turned r (get_or subjects x 0) i and ordered_so turned r j (get_or children x 0))
+-- tests of which both pass
+first_passes : (a b : Bool) → a && b ≡ true → a ≡ true
+first_passes true b p = refl
+first_passes false b p = p
 
-pub child_sought : {n : ℕ} {st : List Statement} {subjects features children : List ℕ}
-    → Selections n subjects features children → SelectionsStand n st (Listed subjects features children) →
-    (turned : Bool) (r : Relation) (i f j : ℕ)
-    → any_below (length subjects) (child_at turned r subjects features children i f j) ≡ child_shown turned st r i f j
-unfolding child_at child_shown
-child_sought {n} {st} {subjects} {features} {children} lawful stand turned r i f j =
-    same_tests _ _
-    (λ p. below_one (length subjects) _ p λ x g t.
-    by_selection_at f _ _
-    (stand.stated _ _ _ (lawful.subject_below x g) (record {
-      at = x;
-      in_list = g;
-      subject = refl;
-      feature = sym (same_true _ _ (first_of_and _ _ t));
-      child = refl;
-    }))
-    (first_of_and _ _ (second_of_and (same f (get_or features x 0)) _ t))
-    (second_of_and _ _ (second_of_and (same f (get_or features x 0)) _ t)))
-    (λ p. one_selection_at st f _ _ p λ k m s a b.
-    let l = stand.listed k f m s in
-    below_by _ (length subjects) l.at l.in_list
-    (both (is_same f _ (sym l.feature)) (both (rw l.subject a) (rw l.child b))))
+second_passes : (a b : Bool) → a && b ≡ true → b ≡ true
+second_passes true b p = p
+second_passes false b p = absurd (false≢true p)
 
--- a selection is supported from both sides
-module _ (st : List Statement) (r : Relation) (i f j : ℕ) where
-  pub under_first : {b : Bool} → child_shown false st r i f j ≡ true → b ≡ child_shown true st r i f j
-      → b ≡ supported st r (selection i f j)
-  unfolding child_shown ordered_so pick supported under_child over_child
-  under_first p e = second_decides p e
+-- each of the list is lawful
+pub lawful_at : {n : ℕ} {list : List Selection} → Selections n list → (s : Selection) (k : ℕ) → k < length list
+    → s ≡ get_or list k s → IsSelection n s
+lawful_at {n} {list} lawful s k h e =
+    let here = e ∙ get_or_default list k s (selection_of 0 0 0) h in
+    rw here (record { subject = lawful.subject_below k h; child = lawful.child_below k h })
 
-  pub not_under : child_shown false st r i f j ≡ false → false ≡ supported st r (selection i f j)
-  unfolding child_shown ordered_so pick supported under_child
-  not_under p = sym (fails_first _ p)
+module _ {n : ℕ} {st : List Statement} {list : List Selection} (lawful : Selections n list)
+    (stand : SelectionsStand n st (Listed list)) (r : Relation) (i f j : ℕ) where
+  -- the selection at a place is stated, and where one is stated there is a place
+  stated_at : (k : ℕ) → k < length list → same (selection_at list k).feature.0 f ≡ true
+      → Stated st (selection (selection_at list k).subject.0 f (selection_at list k).child.0)
+  stated_at k h e =
+      stand.stated _ _ _ (lawful.subject_below k h)
+      (record { at = k; in_list = h; subject = refl; feature = same_true _ _ e; child = refl })
 
--- k has the label a and is below i
-unfoldable pub label_at : Relation → List ℕ → List ℕ → ℕ → ℕ → ℕ → Bool
-label_at r counts labels i a k = not (same (get_or counts k 0) 0) and (same (get_or labels k 0) a and r ordered k i)
+  pub under_sought : list_any (is_under r i f j) list ≡ under_child st r i f j
+  under_sought =
+      same_tests _ _
+      (λ p. passing_at (is_under r i f j) list (selection_of 0 0 0) p λ k h q.
+      let s = selection_at list k in
+      let rest = second_passes (same s.feature.0 f) _ q in
+      under_by r (stated_at k h (first_passes _ _ q)) (first_passes (r Kind.Ordered s.subject.0 i) _ rest)
+      (second_passes (r Kind.Ordered s.subject.0 i) _ rest))
+      (λ p. under_of st r i f j p λ k m s a b.
+      let l = stand.listed k f m s in
+      list_any_at (is_under r i f j) list l.at (selection_of 0 0 0) l.in_list
+      (both_true (is_same _ f l.feature)
+      (both_true (ap (λ x. r Kind.Ordered x i) l.subject ∙ a) (ap (λ x. r Kind.Ordered j x) l.child ∙ b))))
 
-pub label_sought : (n : ℕ) (t : List ℕ) {st : List Statement} {counts labels : List ℕ} → LabelsStand n st counts labels
-    → SingleLabels n counts → (i a : ℕ)
-    → any_below n (label_at (facts n t) counts labels i a) ≡ under_label st (facts n t) i a
-unfolding label_at
-label_sought n t {st} {counts} {labels} stand one i a =
-    same_tests _ _
-    (λ p. below_one n _ p λ k g test.
-    let rest = second_of_and (not (same (get_or counts k 0) 0)) _ test in
-    let some = same_false _ _ (not-true _ (first_of_and _ _ test)) in
-    label_by (facts n t)
-    (subst (λ b. Stated st (labelling k b)) (same_true _ _ (first_of_and _ _ rest)) ((stand.at k g).first (omega arith)))
-    (second_of_and _ _ rest))
+  pub over_sought : list_any (is_over r i f j) list ≡ over_child st r i f j
+  over_sought =
+      same_tests _ _
+      (λ p. passing_at (is_over r i f j) list (selection_of 0 0 0) p λ k h q.
+      let s = selection_at list k in
+      let rest = second_passes (same s.feature.0 f) _ q in
+      over_by r (stated_at k h (first_passes _ _ q)) (first_passes (r Kind.Ordered i s.subject.0) _ rest)
+      (second_passes (r Kind.Ordered i s.subject.0) _ rest))
+      (λ p. over_of st r i f j p λ k m s a b.
+      let l = stand.listed k f m s in
+      list_any_at (is_over r i f j) list l.at (selection_of 0 0 0) l.in_list
+      (both_true (is_same _ f l.feature)
+      (both_true (ap (λ x. r Kind.Ordered i x) l.subject ∙ a) (ap (λ x. r Kind.Ordered x j) l.child ∙ b))))
+
+-- k has the label a alone and is below i
+abbrev pub label_at : Relation → List Spread → ℕ → ℕ → ℕ → Bool
+label_at r spreads i a k = is_only (spread_at spreads k) a && r Kind.Ordered k i
+
+pub label_sought : (n : ℕ) (t : List ℕ) {st : List Statement} {spreads : List Spread} → LabelsStand n st spreads
+    → SingleLabels n spreads → (i a : ℕ)
+    → list_any (label_at (facts n t) spreads i a) (range_with_len 0 n) ≡ under_label st (facts n t) i a
+label_sought n t {st} {spreads} stand one i a =
+    any_in_range (label_at (facts n t) spreads i a) n
+    ∙ same_tests _ _
+    (λ p. below_one n (label_at (facts n t) spreads i a) p λ k h q.
+    label_by (facts n t) (only_stated (stand.at k h) (first_passes _ _ q))
+    (second_passes (is_only (spread_at spreads k) a) _ q))
     (λ p. label_under st (facts n t) i a p λ k s o.
-    let g = fact_row n t ordered k i o in
-    let here = stand.at k g in
-    let some : get_or counts k 0 ≡ 0 → ⊥ = λ e. here.none e a s in
-    let few = one.single k g in
-    below_by _ n k g
-    (both (ap not (not_same _ _ some)) (both (is_same _ _ (sym (here.only (omega arith) a s))) o)))
+    let h = fact_row n t Kind.Ordered k i o in
+    below_by _ n k h (both_true (stated_only (stand.at k h) (one.single k h) s) o))
+
+-- what is told of a question, by its kind
+module _ {n : ℕ} {t : List ℕ} {list : List Selection} {spreads : List Spread} {q : Statement} {r : Bool} where
+  module _ {i j : Variable} {x y : ℕ} (first : x ≡ i.0) (second : y ≡ j.0) where
+    pub by_ordering : q ≡ Statement.Ordering i j → r ≡ facts n t Kind.Ordered x y → SupportTold n t list spreads q r
+    unfolding supported
+    by_ordering is p = record { told = λ st selections labels. rw (is, ← first, ← second) p }
+
+    pub by_compatibility : q ≡ Statement.Compatibility i j → r ≡ facts n t Kind.Compatible x y
+        → SupportTold n t list spreads q r
+    unfolding supported
+    by_compatibility is p = record { told = λ st selections labels. rw (is, ← first, ← second) p }
+
+    module _ {f : Feature} (lawful : Selections n list) (is : q ≡ Statement.Selection i f j) where
+      pub by_both : list_any (is_under (facts n t) x f.0 y) list ≡ true
+          → r ≡ list_any (is_over (facts n t) x f.0 y) list → SupportTold n t list spreads q r
+      unfolding supported
+      by_both p e =
+          record {
+            told = λ st selections labels.
+                rw (is, ← first, ← second)
+                (second_decides (sym (under_sought lawful selections (facts n t) x f.0 y) ∙ p)
+                (e ∙ over_sought lawful selections (facts n t) x f.0 y));
+          }
+
+      pub by_none_under : r ≡ list_any (is_under (facts n t) x f.0 y) list → r ≡ false
+          → SupportTold n t list spreads q r
+      unfolding supported
+      by_none_under e p =
+          record {
+            told = λ st selections labels.
+                rw (is, ← first, ← second)
+                (p ∙ sym (fails_first _ (sym (under_sought lawful selections (facts n t) x f.0 y) ∙ sym e ∙ p)));
+          }
+
+  pub by_label : {i : Variable} {a : Label} {x : ℕ} → x ≡ i.0 → q ≡ Statement.Labelling i a
+      → LabelTold n t spreads x a.0 r → SupportTold n t list spreads q r
+  unfolding supported
+  by_label first is p = record { told = λ st selections labels. rw (is, ← first) (p.told st labels) }

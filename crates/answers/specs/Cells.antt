@@ -1,15 +1,9 @@
--- The table that is lent, and the kind of fact that is asked.
-use Rattle.std.specs.Prelude.{ℕ, ◌≤◌, Bool, true, false, List}
+-- The table that is lent.
+use Rattle.std.specs.Prelude.{ℕ, ◌≤◌, List}
 use Rattle.fields.specs.Limits.{most_variables}
-use Rattle.rules.specs.Facts.{Kind, ordered, compatible}
 use Rattle.rules.specs.Tables.{Shape}
 
 -- a table of no more variables than there may be
 pub record Lent (n : ℕ) (t : List ℕ) : Type 0 where
   pub few : n ≤ most_variables
   pub shape : Shape n t
-
--- ~ where alike is asked, else ≤
-abbrev pub kind_of : Bool → Kind
-kind_of true = compatible
-kind_of false = ordered

@@ -1,39 +1,40 @@
--- What is told of support, whatever statements have their selections and labels kept in the lists.
-use Rattle.std.specs.Prelude.{ℕ, ◌<◌, get_or, Bool, List, ◌≡◌}
-use Rattle.fields.specs.Tests.{same, pick}
+-- What is told of support, whatever statements have their selections in the list and these spreads of labels.
+use Rattle.std.specs.Prelude.{ℕ, ◌<◌, Bool, false, ◌&&◌, List, ◌≡◌}
+use Rattle.fields.specs.Tests.{same}
 use Rattle.items.specs.declared.items.Statement.{Statement}
-use Rattle.rules.specs.Connectives.{◌and◌}
-use Rattle.rules.specs.Stated.{some_selection}
-use Rattle.rules.specs.Facts.{ordered, Relation}
+use Rattle.rules.specs.declared.kinds.Kind.{Kind}
+use Rattle.rules.specs.Facts.{Relation}
 use Rattle.rules.specs.Tables.{facts}
 use Rattle.rules.specs.Support.{under_label, supported}
+use Rattle.selections.specs.declared.listed.Selection.{Selection}
 use Rattle.selections.specs.Listed.{Listed}
 use Rattle.selections.specs.Stands.{SelectionsStand}
+use Rattle.labels.specs.declared.spread.Spread.{Spread}
+use Rattle.labels.specs.Spreads.{spread_at, is_several}
 use Rattle.labels.specs.Labels.{LabelsStand}
 
 -- no variable has two different labels
-pub record SingleLabels (n : ℕ) (counts : List ℕ) : Type 0 where
-  pub single : (i : ℕ) → i < n → get_or counts i 0 < 2
+pub record SingleLabels (n : ℕ) (spreads : List Spread) : Type 0 where
+  pub single : (i : ℕ) → i < n → is_several (spread_at spreads i) ≡ false
 
--- x ≤ y, or y ≤ x where it is turned
-unfoldable pub ordered_so : Bool → Relation → ℕ → ℕ → Bool
-ordered_so turned r x y = pick turned (r ordered y x) (r ordered x y)
+-- a selection names variables below n
+pub record IsSelection (n : ℕ) (s : Selection) : Type 0 where
+  pub subject : s.subject.0 < n
+  pub child : s.child.0 < n
 
--- some k[f]m has k ≤ i and j ≤ m, or both turned: under_child and over_child
-unfoldable pub child_shown : Bool → List Statement → Relation → ℕ → ℕ → ℕ → Bool
-child_shown turned st r i f j =
-    some_selection st λ k g m. same f g and (ordered_so turned r k i and ordered_so turned r j m)
+-- k[f]m has k ≤ i and j ≤ m
+abbrev pub is_under : Relation → ℕ → ℕ → ℕ → Selection → Bool
+is_under r i f j s = same s.feature.0 f && (r Kind.Ordered s.subject.0 i && r Kind.Ordered j s.child.0)
 
-pub record ChildTold (n : ℕ) (t subjects features children : List ℕ) (turned : Bool) (i f j : ℕ) (r : Bool) : Type 0
-  where
-    pub told : (st : List Statement) → SelectionsStand n st (Listed subjects features children)
-        → r ≡ child_shown turned st (facts n t) i f j
+-- k[f]m has i ≤ k and m ≤ j
+abbrev pub is_over : Relation → ℕ → ℕ → ℕ → Selection → Bool
+is_over r i f j s = same s.feature.0 f && (r Kind.Ordered i s.subject.0 && r Kind.Ordered s.child.0 j)
 
-pub record LabelTold (n : ℕ) (t counts labels : List ℕ) (i a : ℕ) (r : Bool) : Type 0 where
-  pub told : (st : List Statement) → LabelsStand n st counts labels → r ≡ under_label st (facts n t) i a
+-- whether some k ≤ i has the label a
+pub record LabelTold (n : ℕ) (t : List ℕ) (spreads : List Spread) (i a : ℕ) (r : Bool) : Type 0 where
+  pub told : (st : List Statement) → LabelsStand n st spreads → r ≡ under_label st (facts n t) i a
 
-pub record SupportTold (n : ℕ) (t subjects features children counts labels : List ℕ) (q : Statement) (r : Bool) : Type 0
-  where
-    pub told : (st : List Statement) → SelectionsStand n st (Listed subjects features children)
-        → LabelsStand n st counts labels
-        → r ≡ supported st (facts n t) q
+pub record SupportTold (n : ℕ) (t : List ℕ) (list : List Selection) (spreads : List Spread) (q : Statement) (r : Bool)
+    : Type 0 where
+  pub told : (st : List Statement) → SelectionsStand n st (Listed list) → LabelsStand n st spreads
+      → r ≡ supported st (facts n t) q

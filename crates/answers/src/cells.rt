@@ -2,18 +2,15 @@
 ghost use Rattle.std.specs.Prelude.{◌≡◌};
 ghost use Rattle.rules.specs.Tables.{facts};
 ghost use Rattle.table.specs.Cells.{Cell};
-ghost use Rattle.answers.specs.Cells.{kind_of};
 
-use table::{look, says_compatible, says_ordered};
+use rules::Kind;
+use table::{Table, says};
 
-// i ~ j where alike is asked, else i ≤ j.
-pub fn has_fact(t: &[u8], n: usize, alike: bool, i: usize, j: usize) -> bool
-    requires { Cell n t.now i j }
-    ensures { result ≡ facts n t.now (kind_of alike) i j }
+// Whether a fact of the kind holds of i and j.
+#[tactic(auto, using(rules::proofs::Tables::fact_said))]
+pub fn has_fact(table: &Table<'_>, kind: Kind, i: usize, j: usize) -> bool
+    requires { Cell table.now.n table.now.cells.now i j }
+    ensures { result ≡ facts table.now.n table.now.cells.now kind i j }
 {
-    let cell = look(t, n, i, j);
-    if alike {
-        return says_compatible(cell);
-    }
-    says_ordered(cell)
+    says(kind, table.look(i, j))
 }

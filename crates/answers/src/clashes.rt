@@ -4,80 +4,49 @@ ghost use Rattle.answers.specs.Cells.{Lent};
 ghost use Rattle.answers.specs.Clashes.{RowTold, ClashTold, LabelClashTold};
 
 use crate::cells::has_fact;
-use fields::{MOST_VARIABLES, Variable};
-use labels::{has_other, labels_differ};
-use rules::Clash;
+use fields::{Label, Variable};
+use labels::Labels;
+use rules::{Clash, Kind};
+use table::Table;
 
 // The least column at which row i has a clash.
-fn clash_in_row(
-    t: &[u8],
-    n: usize,
-    counts: &[u8; MOST_VARIABLES],
-    labels: &[u16; MOST_VARIABLES],
-    i: usize,
-) -> Clash
-    requires { Lent n t.now × (i < n) }
-    ensures { RowTold n t.now counts.now labels.now i result }
+#[tactic(auto, using(crate::proofs::Clashed::columns))]
+fn clash_in_row(table: &Table<'_>, labels: &Labels, i: usize) -> Option<Clash>
+    requires { Lent table.now.n table.now.cells.now × (i < table.now.n) }
+    ensures { RowTold table.now.n table.now.cells.now labels.now.spreads i result }
 {
-    if counts[i] == 0 {
-        return Clash::Nowhere;
+    if !labels.spreads[i].has_any() {
+        return None;
     }
-    let mut left = n;
-    while 0 < left {
-        let at = n - left;
-        left -= 1;
-        if has_fact(t, n, true, i, at) {
-            if labels_differ(counts, labels, i, at) {
-                return Clash::Between(Variable(i as u8), Variable(at as u8));
-            }
+    for j in 0..table.n {
+        if has_fact(table, Kind::Compatible, i, j) && labels.differ(i, j) {
+            return Some(Clash {
+                first: Variable(i as u8),
+                second: Variable(j as u8),
+            });
         }
     }
-    Clash::Nowhere
+    None
 }
 
 // The clash at the least row, and there at the least column.
-pub fn clash_of(
-    t: &[u8],
-    n: usize,
-    counts: &[u8; MOST_VARIABLES],
-    labels: &[u16; MOST_VARIABLES],
-) -> Clash
-    requires { Lent n t.now }
-    ensures { ClashTold n t.now counts.now labels.now result }
+#[tactic(auto, using(crate::proofs::Clashed::rows))]
+pub fn clash_of(table: &Table<'_>, labels: &Labels) -> Option<Clash>
+    requires { Lent table.now.n table.now.cells.now }
+    ensures { ClashTold table.now.n table.now.cells.now labels.now.spreads result }
 {
-    let mut left = n;
-    while 0 < left {
-        let i = n - left;
-        match clash_in_row(t, n, counts, labels, i) {
-            Clash::Nowhere => {
-                left -= 1;
-            }
-            Clash::Between(x, y) => return Clash::Between(x, y),
+    for i in 0..table.n {
+        if let Some(clash) = clash_in_row(table, labels, i) {
+            return Some(clash);
         }
     }
-    Clash::Nowhere
+    None
 }
 
 // Whether the label a of i would clash with a label that is stated.
-pub fn label_clashes(
-    t: &[u8],
-    n: usize,
-    counts: &[u8; MOST_VARIABLES],
-    labels: &[u16; MOST_VARIABLES],
-    i: usize,
-    a: u16,
-) -> bool
-    requires { Lent n t.now × (i < n) }
-    ensures { LabelClashTold n t.now counts.now labels.now i a result }
+pub fn label_clashes(table: &Table<'_>, labels: &Labels, i: usize, a: Label) -> bool
+    requires { Lent table.now.n table.now.cells.now × (i < table.now.n) }
+    ensures { LabelClashTold table.now.n table.now.cells.now labels.now.spreads i a.0 result }
 {
-    let mut left = n;
-    while 0 < left {
-        left -= 1;
-        if has_fact(t, n, true, i, left) {
-            if has_other(counts, labels, left, a) {
-                return true;
-            }
-        }
-    }
-    false
+    (0..table.n).any(|j| has_fact(table, Kind::Compatible, i, j) && labels.has_other(j, a))
 }

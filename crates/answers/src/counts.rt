@@ -1,40 +1,32 @@
 // How many facts the table has.
 ghost use Rattle.std.specs.Prelude.{◌<◌, ◌≡◌};
 ghost use Rattle.rules.specs.Tables.{facts, count_facts};
-ghost use Rattle.answers.specs.Cells.{Lent, kind_of};
+ghost use Rattle.answers.specs.Cells.{Lent};
 ghost use Rattle.answers.specs.Counts.{RowCount};
 
 use crate::cells::has_fact;
+use rules::Kind;
+use table::Table;
 
-// The facts of row i: ~ where alike is asked, else ≤.
-#[tactic(auto, unfolding(rules::specs::Tables::count_passing, rules::specs::Tables::count_row, fields::specs::Tests::pick))]
-fn count_row(t: &[u8], n: usize, alike: bool, i: usize) -> usize
-    requires { Lent n t.now × (i < n) }
-    ensures { RowCount n t.now (kind_of alike) i result }
+// The facts of the kind in row i.
+fn count_row(table: &Table<'_>, kind: Kind, i: usize) -> usize
+    requires { Lent table.now.n table.now.cells.now × (i < table.now.n) }
+    ensures { RowCount table.now.n table.now.cells.now kind i result }
 {
-    let mut count = 0;
-    let mut j = 0;
-    while j < n {
-        let at = j;
-        j += 1;
-        if has_fact(t, n, alike, i, at) {
-            count += 1;
-        }
-    }
-    count
+    (0..table.n)
+        .filter(|j| has_fact(table, kind, i, *j))
+        .count()
 }
 
 // The facts of the kind in all rows.
 #[tactic(auto, unfolding(rules::specs::Tables::count_rows, rules::specs::Tables::count_facts))]
-pub fn count_facts(t: &[u8], n: usize, alike: bool) -> usize
-    requires { Lent n t.now }
-    ensures { result ≡ count_facts n (facts n t.now) (kind_of alike) }
+pub fn count_facts(table: &Table<'_>, kind: Kind) -> usize
+    requires { Lent table.now.n table.now.cells.now }
+    ensures { result ≡ count_facts table.now.n (facts table.now.n table.now.cells.now) kind }
 {
     let mut count = 0;
-    let mut i = 0;
-    while i < n {
-        count += count_row(t, n, alike, i);
-        i += 1;
+    for i in 0..table.n {
+        count += count_row(table, kind, i);
     }
     count
 }

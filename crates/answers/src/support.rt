@@ -4,114 +4,68 @@ ghost use Rattle.items.specs.Statements.{Names};
 ghost use Rattle.rules.specs.Tables.{facts};
 ghost use Rattle.selections.specs.Listed.{Selections};
 ghost use Rattle.answers.specs.Cells.{Lent};
-ghost use Rattle.answers.specs.Supports.{SingleLabels, ordered_so, ChildTold, LabelTold, SupportTold};
+ghost use Rattle.answers.specs.Supports.{SingleLabels, IsSelection, is_under, is_over, LabelTold, SupportTold};
 
 use crate::cells::has_fact;
-use fields::MOST_VARIABLES;
+use fields::{Feature, Label};
 use items::Statement;
+use labels::Labels;
+use rules::Kind;
+use selections::Selection;
+use table::Table;
 
-// x ≤ y, or y ≤ x where it is turned.
-#[tactic(auto, unfolding(crate::specs::Supports::ordered_so, fields::specs::Tests::pick))]
-fn is_ordered(t: &[u8], n: usize, turned: bool, x: usize, y: usize) -> bool
-    requires { Lent n t.now × ((x < n) × (y < n)) }
-    ensures { result ≡ ordered_so turned (facts n t.now) x y }
+// Whether the selection is some k[f]m with k ≤ i and j ≤ m.
+#[tactic(auto, unfolding(fields::specs::Tests::same))]
+fn is_under(table: &Table<'_>, selection: &Selection, i: usize, f: Feature, j: usize) -> bool
+    requires lent { Lent table.now.n table.now.cells.now × ((i < table.now.n) × (j < table.now.n)) }
+    requires selection { IsSelection table.now.n selection.now }
+    ensures { result ≡ is_under (facts table.now.n table.now.cells.now) i f.0 j selection.now }
 {
-    if turned {
-        has_fact(t, n, false, y, x)
-    } else {
-        has_fact(t, n, false, x, y)
-    }
+    selection.feature == f
+        && has_fact(table, Kind::Ordered, selection.subject.index(), i)
+        && has_fact(table, Kind::Ordered, j, selection.child.index())
 }
 
-// Some k[f]m has k ≤ i and j ≤ m, or both turned.
-fn shows_child(
-    t: &[u8],
-    n: usize,
-    subjects: &[u8],
-    features: &[u16],
-    children: &[u8],
-    turned: bool,
-    i: usize,
-    f: u16,
-    j: usize,
-) -> bool
-    requires lent { Lent n t.now × ((i < n) × (j < n)) }
-    requires selections { Selections n subjects.now features.now children.now }
-    ensures { ChildTold n t.now subjects.now features.now
-        children.now turned i f j result }
+// Whether it is some k[f]m with i ≤ k and m ≤ j.
+#[tactic(auto, unfolding(fields::specs::Tests::same))]
+fn is_over(table: &Table<'_>, selection: &Selection, i: usize, f: Feature, j: usize) -> bool
+    requires lent { Lent table.now.n table.now.cells.now × ((i < table.now.n) × (j < table.now.n)) }
+    requires selection { IsSelection table.now.n selection.now }
+    ensures { result ≡ is_over (facts table.now.n table.now.cells.now) i f.0 j selection.now }
 {
-    let mut left = subjects.len();
-    while 0 < left {
-        left -= 1;
-        if features[left] == f {
-            let k = subjects[left] as usize;
-            let m = children[left] as usize;
-            if is_ordered(t, n, turned, k, i) {
-                if is_ordered(t, n, turned, j, m) {
-                    return true;
-                }
-            }
-        }
-    }
-    false
+    selection.feature == f
+        && has_fact(table, Kind::Ordered, i, selection.subject.index())
+        && has_fact(table, Kind::Ordered, selection.child.index(), j)
 }
 
-// Some k ≤ i has the label a.
-fn shows_label(
-    t: &[u8],
-    n: usize,
-    counts: &[u8; MOST_VARIABLES],
-    labels: &[u16; MOST_VARIABLES],
-    i: usize,
-    a: u16,
-) -> bool
-    requires lent { Lent n t.now × (i < n) }
-    requires single_labels { SingleLabels n counts.now }
-    ensures { LabelTold n t.now counts.now labels.now i a result }
+// Whether some k ≤ i has the label a.
+fn has_label(table: &Table<'_>, labels: &Labels, i: usize, a: Label) -> bool
+    requires lent { Lent table.now.n table.now.cells.now × (i < table.now.n) }
+    requires single_labels { SingleLabels table.now.n labels.now.spreads }
+    ensures { LabelTold table.now.n table.now.cells.now labels.now.spreads i a.0 result }
 {
-    let mut left = n;
-    while 0 < left {
-        left -= 1;
-        if counts[left] != 0 {
-            if labels[left] == a {
-                if has_fact(t, n, false, left, i) {
-                    return true;
-                }
-            }
-        }
-    }
-    false
+    (0..table.n).any(|k| labels.spreads[k].is_only(a) && has_fact(table, Kind::Ordered, k, i))
 }
 
 // Whether the question is supported.
-pub fn supports(
-    t: &[u8],
-    n: usize,
-    subjects: &[u8],
-    features: &[u16],
-    children: &[u8],
-    counts: &[u8; MOST_VARIABLES],
-    labels: &[u16; MOST_VARIABLES],
-    q: Statement,
-) -> bool
-    requires lent { Lent n t.now × Names n q }
-    requires selections { Selections n subjects.now features.now children.now }
-    requires single_labels { SingleLabels n counts.now }
-    ensures { SupportTold n t.now subjects.now features.now
-        children.now counts.now labels.now q result }
+pub fn supports(table: &Table<'_>, list: &[Selection], labels: &Labels, q: Statement) -> bool
+    requires lent { Lent table.now.n table.now.cells.now × Names table.now.n q }
+    requires selections { Selections table.now.n list.now }
+    requires single_labels { SingleLabels table.now.n labels.now.spreads }
+    ensures { SupportTold table.now.n table.now.cells.now list.now labels.now.spreads q result }
 {
     match q {
-        Statement::Ordering(i, j) => has_fact(t, n, false, i.0 as usize, j.0 as usize),
-        Statement::Compatibility(i, j) => has_fact(t, n, true, i.0 as usize, j.0 as usize),
+        Statement::Ordering(i, j) => has_fact(table, Kind::Ordered, i.index(), j.index()),
+        Statement::Compatibility(i, j) => has_fact(table, Kind::Compatible, i.index(), j.index()),
         Statement::Selection(i, f, j) => {
-            let x = i.0 as usize;
-            let y = j.0 as usize;
-            if shows_child(t, n, subjects, features, children, false, x, f.0, y) {
-                shows_child(t, n, subjects, features, children, true, x, f.0, y)
-            } else {
-                false
-            }
+            let subject = i.index();
+            let child = j.index();
+            list.iter()
+                .any(|selection| is_under(table, selection, subject, f, child))
+                && list
+                    .iter()
+                    .any(|selection| is_over(table, selection, subject, f, child))
         }
-        Statement::Labelling(i, a) => shows_label(t, n, counts, labels, i.0 as usize, a.0),
+        Statement::Labelling(i, a) => has_label(table, labels, i.index(), a),
     }
 }

@@ -1,5 +1,5 @@
 // How a sheet is checked, with lent buffers that are long enough or one byte short.
-use engine::{HeaderRead, Outcome};
+use engine::Outcome;
 use std::alloc::Global;
 use std::io::{Result, Write};
 
@@ -10,7 +10,7 @@ fn told(outcome: Outcome) -> (&'static str, u16, u16) {
             ("consistent", orderings, compatibilities)
         }
         Outcome::Clash(i, j) => ("clash", u16::from(i.0), u16::from(j.0)),
-        Outcome::Refused(fault, at) => ("refused", u16::from(fault.number()), at),
+        Outcome::Refused(fault, at) => ("refused", u16::from(u8::from(fault)), at),
     }
 }
 
@@ -48,7 +48,7 @@ pub fn show_outcome(out: &mut impl Write, alloc: Global, name: &str, bytes: &[u8
 // The check with buffers of just the size; then with the first table, the second, the replies, and all a byte short.
 pub fn show_buffers(out: &mut impl Write, alloc: Global, name: &str, bytes: &[u8]) -> Result<()> {
     write!(out, "{name}:")?;
-    if let HeaderRead::Is(h) = engine::read_header(bytes) {
+    if let Ok(h) = engine::read_header(bytes) {
         let size = h.table_size();
         let count = usize::from(h.question_count());
         let less_size = size.saturating_sub(1);

@@ -1,10 +1,10 @@
 // One line a case: its name, and how its sheet is read.
-use sheet::{Cursor, Header, HeaderRead, Refusal, SheetRead};
+use sheet::{Accepted, Header, Refusal};
 use std::io::{Result, Write};
 
 fn refused(out: &mut impl Write, name: &str, refusal: Refusal) -> Result<()> {
     let fault = refusal.fault;
-    writeln!(out, "{name}: refused {} {}", fault.number(), refusal.at)
+    writeln!(out, "{name}: refused {} {}", u8::from(fault), refusal.at)
 }
 
 // Counts, table size and the offset of the records.
@@ -19,29 +19,29 @@ fn header(out: &mut impl Write, h: Header) -> Result<()> {
     Ok(())
 }
 
-fn accepted(out: &mut impl Write, name: &str, h: Header, asked: Cursor) -> Result<()> {
+fn accepted(out: &mut impl Write, name: &str, found: Accepted) -> Result<()> {
     write!(out, "{name}: accepted")?;
-    header(out, h)?;
-    writeln!(out, " {}", asked.at)
+    header(out, found.header)?;
+    writeln!(out, " {}", found.asked.at)
 }
 
 // The whole sheet: accepted with what its header says and the offset of the questions, or refused.
 pub fn show_sheet(out: &mut impl Write, name: &str, bytes: &[u8]) -> Result<()> {
     match sheet::read_sheet(bytes) {
-        SheetRead::Accepted(h, asked) => accepted(out, name, h, asked),
-        SheetRead::Refused(refusal) => refused(out, name, refusal),
+        Ok(found) => accepted(out, name, found),
+        Err(refusal) => refused(out, name, refusal),
     }
 }
 
 // The header alone.
 pub fn show_header(out: &mut impl Write, name: &str, bytes: &[u8]) -> Result<()> {
     match sheet::read_header(bytes) {
-        HeaderRead::Is(h) => {
+        Ok(h) => {
             write!(out, "{name}: header")?;
             header(out, h)?;
             writeln!(out)
         }
-        HeaderRead::Refused(refusal) => refused(out, name, refusal),
+        Err(refusal) => refused(out, name, refusal),
     }
 }
 

@@ -1,4 +1,5 @@
 -- A reply of a check on buffers that serve decides whether a test may be left out: what a check promises says it all.
+use Rattle.std.specs.Prelude.{Ok, Err}
 use Prim.Native.Nat.{ℕ, ◌<◌, ◌≤◌}
 use lib.ListN.{length, get_or, replicate, length-replicate}
 use mathlib.Core.List.{List}
@@ -7,7 +8,6 @@ use mathlib.Core.Path.{◌≡◌, ap, ◌∙◌}
 use native.Mathlib.Omega.{arith}
 use Rattle.fields.specs.declared.refusals.Refusal.{Refusal}
 use Rattle.headers.specs.declared.headers.Header.{Header}
-use Rattle.headers.specs.declared.headers.HeaderRead.{HeaderRead}
 use Rattle.headers.specs.Headers.{header_of, largest_table, reply_count, most_replies}
 use Rattle.sheet.specs.Sheets.{read_sheet, sheet_of}
 use Rattle.sheet.proofs.Theorems.{accepted_read, asked_replies}
@@ -20,21 +20,21 @@ use Rattle.client.specs.Dropping.{MayDrop}
 use Rattle.client.proofs.Buffers.{replies_fit, buffers_serve}
 
 -- a sheet that is accepted asks as many questions as its header says
-pub count_read : (s : List ℕ) {h : Header} → HeaderRead.Is h ≡ header_of s → IsAccepted (read_sheet s)
+pub count_read : (s : List ℕ) {h : Header} → Ok h ≡ header_of s → IsAccepted (read_sheet s)
     → length (sheet_of s).asked ≡ reply_count h
-count_read s {h} e (h', (asked, a)) =
-    let read = (accepted_read s h' asked a).header_is in
-    let same : h' ≡ h = cc in
-    asked_replies s h' asked a ∙ ap reply_count same
+count_read s {h} e (a, is) =
+    let read = (accepted_read s a is).header_is in
+    let same : a.header ≡ h = cc in
+    asked_replies s a is ∙ ap reply_count same
 
-pub header_there : (s : List ℕ) {q : Refusal} → HeaderRead.Refused q ≡ header_of s → IsAccepted (read_sheet s) → ⊥
-header_there s e (h, (asked, a)) =
-    let read = (accepted_read s h asked a).header_is in
+pub header_there : (s : List ℕ) {q : Refusal} → Err q ≡ header_of s → IsAccepted (read_sheet s) → ⊥
+header_there s e (a, is) =
+    let read = (accepted_read s a is).header_is in
     let z : ◌≡◌ {A = ℕ} 0 1 = cc in omega arith
 
 -- and of these there are no more than there may be
 pub replies_few : (s : List ℕ) → IsAccepted (read_sheet s) → length (sheet_of s).asked ≤ most_replies
-replies_few s (h, (asked, a)) = omega (arith, asked_replies s h asked a, replies_fit s h asked a)
+replies_few s (a, is) = omega (arith, asked_replies s a is, replies_fit s a is)
 
 -- the buffers that are lent
 abbrev zeros : ℕ → List ℕ
@@ -44,7 +44,7 @@ module _ {b facts' replies' : List ℕ} {r : ℕ}
     (means : Means b (zeros largest_table) (zeros largest_table) (zeros most_replies) facts' replies' r) where
   served : IsAccepted (read_sheet b)
       → IsAccepted (judged b (length (zeros largest_table)) (length (zeros largest_table)) (length (zeros most_replies)))
-  served (h, (asked, e)) = (h, (asked, simp length-replicate (buffers_serve b h asked e)))
+  served (a, e) = (a, simp length-replicate (buffers_serve b a e))
 
   -- a sheet for which a test may be left out is consistent
   pub only_consistent : (k : ℕ) → MayDrop b k → kind_in r ≡ 0
@@ -52,8 +52,8 @@ module _ {b facts' replies' : List ℕ} {r : ℕ}
 
   pub read_accepted : kind_in r ≡ 0 → IsAccepted (read_sheet b)
   read_accepted kind =
-      let (h, (asked, e)) = (means.consistent.0 kind).0 in
-      (h, (asked, (accepted_fits b _ _ _ h asked e).accepted))
+      let (a, e) = (means.consistent.0 kind).0 in
+      (a, (accepted_fits b _ _ _ a e).accepted)
 
   -- and there it may exactly where the question has the reply byte 0
   pub dropped : kind_in r ≡ 0 → (k : ℕ)

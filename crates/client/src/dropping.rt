@@ -1,12 +1,11 @@
 // Whether a run-time test may be left out: the check, on buffers of its own.
 ghost use Rattle.std.specs.Prelude.{◌≡◌, ◌<◌, ◌↔◌, IsTrue, length, get_or};
-ghost use Rattle.sheet.specs.declared.whole.SheetRead.{SheetRead};
 ghost use Rattle.headers.specs.Headers.{most_replies};
 ghost use Rattle.sheet.specs.Sheets.{read_sheet, sheet_of};
 ghost use Rattle.promise.specs.Promise.{IsAccepted};
 ghost use Rattle.client.specs.Dropping.{MayDrop};
 
-use engine::{HeaderRead, LARGEST_TABLE, MOST_REPLIES, Outcome, check, read_header};
+use engine::{LARGEST_TABLE, MOST_REPLIES, Outcome, check, read_header};
 
 // Whether there is a question of this number, answered always.
 fn is_answered_always(sheet: &[u8], replies: &[u8], question: u32) -> bool
@@ -15,18 +14,16 @@ fn is_answered_always(sheet: &[u8], replies: &[u8], question: u32) -> bool
         → IsTrue result ↔ ((question < length (sheet_of sheet.now).asked) × (get_or replies.now question 0 ≡ 0)) }
 {
     let k = question as usize;
-    match read_header(sheet) {
-        HeaderRead::Is(header) => {
-            if header.reply_count() <= k {
-                return false;
-            }
-            if replies.len() <= k {
-                return false;
-            }
-            replies[k] == 0
-        }
-        HeaderRead::Refused(_) => false,
+    let Ok(header) = read_header(sheet) else {
+        return false;
+    };
+    if header.reply_count() <= k {
+        return false;
     }
+    if replies.len() <= k {
+        return false;
+    }
+    replies[k] == 0
 }
 
 // Whether the test of what a question asks may be left out: the bytes are a sheet that some assignment meets, it has a

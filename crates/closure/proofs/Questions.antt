@@ -5,26 +5,32 @@ use mathlib.Core.List.Memᴰ
 use mathlib.Core.List.{List}
 use mathlib.Core.Logic.{◌⊎◌, inl, inr}
 use mathlib.Core.Path.{◌≡◌, sym, ap, ◌∙◌}
+use Rattle.std.specs.Prelude.{Option, is_some}
 use Rattle.fields.specs.declared.numbers.Feature.{Feature}
+use Rattle.fields.specs.declared.numbers.Label.{Label}
 use Rattle.fields.specs.declared.numbers.Variable.{Variable}
 use Rattle.items.specs.declared.items.Statement.{Statement}
 use Rattle.items.specs.Statements.{Names}
 use Rattle.rules.specs.declared.clashes.Clash.{Clash}
-use Rattle.rules.specs.Stated.{selection}
-use Rattle.rules.specs.Facts.{Kind, fact}
+use Rattle.rules.specs.Stated.{selection, labelling}
+use Rattle.rules.specs.declared.kinds.Kind.{Kind}
+use Rattle.rules.specs.Facts.{fact}
 use Rattle.rules.specs.Tables.{facts}
-use Rattle.rules.specs.Clashes.{clash_in_rows, clash_of, is_clash, clashes}
+use Rattle.rules.specs.Clashes.{clash_in_rows, clash_of, clashes}
 use Rattle.rules.proofs.Lists.{all_with}
 use Rattle.facts.specs.Additions.{Said}
 use Rattle.facts.proofs.Sets.{among_none}
+use Rattle.selections.specs.declared.grouped.Groups.{Groups}
 use Rattle.selections.specs.Groups.{Grouped}
 use Rattle.selections.specs.Stands.{Selected, SelectionsStand}
 use Rattle.selections.proofs.Stands.{ListedIn, one_listed, only_listed, both_selected, statement_selections}
 use Rattle.selections.proofs.Stands.{other_than_selection}
+use Rattle.labels.specs.declared.spread.Spread.{Spread}
 use Rattle.labels.specs.Spreads.{spread_below, can_clash}
 use Rattle.labels.proofs.Skip.{skip}
-use Rattle.answers.specs.Clashes.{ClashTold}
+use Rattle.answers.specs.Clashes.{ClashTold, LabelClashTold}
 use Rattle.answers.proofs.OneLabel.{no_label}
+use Rattle.derivation.proofs.Descending.{to_size}
 use Rattle.derivation.proofs.Stands.{kind_cell, statement_pairs, fact_said, said_fact, no_subject}
 use Rattle.closure.specs.Trials.{Nothing, WithOne, before, last, Searched, Tried}
 use Rattle.closure.specs.Trials.{Standing, Consistent}
@@ -68,12 +74,16 @@ read_selection : {q : Statement} {i : Variable} {f : Feature} {j : Variable} {x 
     → x ≡ i.0 → q ≡ selection x f.0 j.0
 read_selection {f = f} {j = j} e g = e ∙ ap (λ k. selection k f.0 j.0) (sym g)
 
+read_label : {q : Statement} {i : Variable} {a : Label} {x : ℕ} → q ≡ Statement.Labelling i a → x ≡ i.0
+    → q ≡ labelling x a.0
+read_label {a = a} e g = e ∙ ap (λ k. labelling k a.0) (sym g)
+
 -- what each kind tells, of statements that stand in the arrays and do not clash
-module _ {n : ℕ} {closed starts ends features children counts labels : List ℕ} where
+module _ {n : ℕ} {closed : List ℕ} {groups : Groups} {spreads : List Spread} where
   pub fact_told : {r : Bool} (kind : Kind) (i j x y : ℕ) (q : Statement) → q ≡ fact kind i j → x ≡ i → y ≡ j
       → Names n q
-      → Searched n (Grouped starts ends features children) (Said (kind_cell kind) x y) closed counts labels r
-      → Tried n (Consistent n closed starts ends features children counts labels) q r
+      → Searched n (Grouped groups) (Said (kind_cell kind) x y) closed spreads r
+      → Tried n (Consistent n closed groups spreads) q r
   fact_told kind i j x y q d g h names searched =
       let e = read_fact kind d g h in
       rw e (record {
@@ -83,8 +93,8 @@ module _ {n : ℕ} {closed starts ends features children counts labels : List �
 
   pub selection_told : {r : Bool} {i : Variable} {f : Feature} {j : Variable} (x : ℕ) (q : Statement)
       → q ≡ Statement.Selection i f j → x ≡ i.0 → Names n q
-      → Searched n (WithOne (Grouped starts ends features children) x f.0 j.0) Nothing closed counts labels r
-      → Tried n (Consistent n closed starts ends features children counts labels) q r
+      → Searched n (WithOne (Grouped groups) x f.0 j.0) Nothing closed spreads r
+      → Tried n (Consistent n closed groups spreads) q r
   selection_told {r} {i} {f} {j} x q d g names searched =
       let e = read_selection d g in
       rw e (record {
@@ -93,9 +103,21 @@ module _ {n : ℕ} {closed starts ends features children counts labels : List �
             searched;
       })
 
+  pub label_told : {m : ℕ} {r : Bool} {i : Variable} {a : Label} (x : ℕ) (q : Statement) → m ≡ n
+      → q ≡ Statement.Labelling i a → x ≡ i.0 → LabelClashTold m closed spreads x a.0 r
+      → Tried n (Consistent n closed groups spreads) q r
+  label_told {r = r} {a = a} x q same d g found =
+      let e = read_label d g in
+      let told = to_size (λ z. LabelClashTold z closed spreads x a.0 r) same found in
+      rw e (record {
+        answer = λ st consistent.
+            let stands = consistent.stands in
+            told.told st stands.labelled stands.names stands.derives consistent.clear;
+      })
+
   -- and where nothing is tried
-  pub skip_told : (q : Statement) → Names n q → can_clash (spread_below n counts labels) q ≡ false
-      → Tried n (Consistent n closed starts ends features children counts labels) q false
+  skip_told : (q : Statement) → Names n q → can_clash (spread_below n spreads) q ≡ false
+      → Tried n (Consistent n closed groups spreads) q false
   skip_told q names e =
       record {
         answer = λ st consistent.
@@ -103,26 +125,30 @@ module _ {n : ℕ} {closed starts ends features children counts labels : List �
             sym (skip stands.labelled q (all_with (Names n) st q stands.names names) e);
       }
 
+  pub skip_where : {m : ℕ} {spread : Spread} {r : Bool} (q : Statement) → m ≡ n → spread ≡ spread_below m spreads
+      → Names n q → r ≡ can_clash spread q → r ≡ false → Tried n (Consistent n closed groups spreads) q false
+  skip_where q same is names told p = skip_told q names (rw (← same, ← is) (sym told ∙ p))
+
 -- all statements that stand in the arrays: where they clash, they clash with q
-module _ {n : ℕ} {closed starts ends features children counts labels : List ℕ} {clash : Clash}
-    (found : ClashTold n closed counts labels clash) (q : Statement) (names : Names n q) where
-  of_statements : (st : List Statement) → Standing n closed starts ends features children counts labels st
-      → is_clash clash ≡ clashes st n
+module _ {n : ℕ} {closed : List ℕ} {groups : Groups} {spreads : List Spread} {clash : Option Clash}
+    (found : ClashTold n closed spreads clash) (q : Statement) (names : Names n q) where
+  of_statements : (st : List Statement) → Standing n closed groups spreads st
+      → is_some clash ≡ clashes st n
   unfolding clash_of clashes
   of_statements st stands =
-      ap is_clash (found.told st stands.labelled ∙ ap (λ u. clash_in_rows n 0 n st (facts n u)) stands.derives)
+      ap is_some (found.told st stands.labelled ∙ ap (λ u. clash_in_rows n 0 n st (facts n u)) stands.derives)
 
-  pub clash_stays : is_clash clash ≡ true
-      → Tried n (Standing n closed starts ends features children counts labels) q true
+  pub clash_stays : is_some clash ≡ true
+      → Tried n (Standing n closed groups spreads) q true
   clash_stays p =
       record {
         answer = λ st stands.
             sym (still_clashes n st q stands.names names (sym (of_statements st stands) ∙ p));
       }
 
-  pub all_told : {r : Bool} → is_clash clash ≡ false
-      → Tried n (Consistent n closed starts ends features children counts labels) q r
-      → Tried n (Standing n closed starts ends features children counts labels) q r
+  pub all_told : {r : Bool} → is_some clash ≡ false
+      → Tried n (Consistent n closed groups spreads) q r
+      → Tried n (Standing n closed groups spreads) q r
   all_told p tried =
       record {
         answer = λ st stands.

@@ -1,82 +1,74 @@
 -- What the check rests on: from statements that stand in the lent arrays to all that is told of them.
 use Prim.Native.Nat.{ℕ}
-use lib.ListN.{length}
 use mathlib.Core.Bool.{Bool}
 use mathlib.Core.List.{List, [], ◌∷◌, ◌++◌}
 use mathlib.Core.Path.{◌≡◌, sym, ap, ◌∙◌}
+use Rattle.std.specs.Prelude.{Option, None, is_some}
 use Rattle.items.specs.declared.items.Statement.{Statement}
-use Rattle.items.specs.Statements.{Names, AllName}
+use Rattle.items.specs.Statements.{AllName}
 use Rattle.rules.specs.declared.clashes.Clash.{Clash}
-use Rattle.rules.specs.Facts.{Kind}
+use Rattle.rules.specs.declared.kinds.Kind.{Kind}
 use Rattle.rules.specs.Tables.{facts, count_facts}
 use Rattle.rules.specs.Derived.{derived, facts_of}
-use Rattle.rules.specs.Clashes.{clash_in_rows, clash_of, is_clash, clashes}
+use Rattle.rules.specs.Clashes.{clash_in_rows, clash_of, clashes}
 use Rattle.rules.specs.Support.{supported}
-use Rattle.table.specs.Queue.{queue_room}
+use Rattle.selections.specs.declared.grouped.Groups.{Groups}
+use Rattle.selections.specs.declared.listed.Selection.{Selection}
 use Rattle.selections.specs.Listed.{Selections, Listed}
 use Rattle.selections.specs.Places.{Grouping}
 use Rattle.selections.specs.Stands.{SelectionsStand}
 use Rattle.selections.proofs.Theorems.{made_groups, made_spare, made_stand}
+use Rattle.labels.specs.declared.spread.Spread.{Spread}
 use Rattle.labels.specs.Labels.{LabelsStand}
 use Rattle.answers.specs.Cells.{Lent}
 use Rattle.answers.specs.Clashes.{ClashTold}
 use Rattle.answers.specs.Supports.{SingleLabels, SupportTold}
 use Rattle.answers.proofs.OneLabel.{single_labels_lem}
+use Rattle.derivation.specs.declared.pairs.Pair.{Pair}
 use Rattle.derivation.specs.Stands.{PairsStand, Pairs, Deriving, DerivedFrom}
-use Rattle.closure.specs.Trials.{Trying, Standing, Tried, Asking}
+use Rattle.closure.specs.Trials.{Trying, Standing, Tried}
 
 -- groups made of a selection list
-module _ {n : ℕ} {subjects features children starts₀ ends₀ features₀ children₀ : List ℕ}
-    {starts ends group_features group_children : List ℕ} (lawful : Selections n subjects features children)
-    (grouping : Grouping n subjects features children starts₀ ends₀ features₀ children₀ starts ends group_features
-    group_children) where
-  pub may_derive : {cells lefts rights : List ℕ} → Pairs n cells lefts rights
-      → Deriving n cells lefts rights starts ends group_features group_children
-  may_derive pairs = record { few = lawful.few; pairs = pairs; groups = made_groups lawful grouping }
+module _ {n : ℕ} {list : List Selection} {before groups : Groups} (lawful : Selections n list)
+    (grouping : Grouping n list before groups) where
+  pub may_derive : {pairs : List Pair} → Pairs n pairs → Deriving n pairs groups
+  may_derive pairs = record { few = lawful.few; lawful_pairs = pairs; lawful_groups = made_groups lawful grouping }
 
   -- a table that `derive` left
-  module _ {cells lefts rights t : List ℕ}
-      (from : DerivedFrom n cells lefts rights starts ends group_features group_children t) where
+  module _ {pairs : List Pair} {t : List ℕ} (from : DerivedFrom n pairs groups t) where
     pub may_be_told : Lent n t
     may_be_told = record { few = lawful.few; shape = from.shape }
 
     -- a question may be tried in a copy of it
-    pub may_try : (queue : List ℕ) → length queue ≡ queue_room
-        → Trying n t queue starts ends group_features group_children
-    may_try queue room =
+    pub may_try : Trying n t groups
+    may_try =
         record {
           few = lawful.few;
           shape = from.shape;
           framed = from.framed;
           descends = from.descends;
-          queue_size = room;
-          groups = made_groups lawful grouping;
+          lawful = made_groups lawful grouping;
           spare = made_spare lawful grouping;
         }
 
-    pub may_ask : (work queue : List ℕ) (q : Statement) → work ≡ t → length queue ≡ queue_room → Names n q
-        → Asking n t work queue starts ends group_features group_children q
-    may_ask work queue q copied room named = record { copied = copied; trying = may_try queue room; names = named }
-
-    -- statements that stand in the arrays
-    module _ {st : List Statement} (names : AllName n st) (pairs : PairsStand st cells lefts rights)
-        (stand : SelectionsStand n st (Listed subjects features children)) where
+    -- statements that stand in the lists
+    module _ {st : List Statement} (names : AllName n st) (listed : PairsStand st pairs)
+        (stand : SelectionsStand n st (Listed list)) where
       pub is_derived_table : t ≡ derived st n
-      is_derived_table = from.table st names pairs (made_stand lawful grouping stand)
+      is_derived_table = from.table st names listed (made_stand lawful grouping stand)
 
       pub count_is : (kind : Kind) (r : ℕ) → r ≡ count_facts n (facts n t) kind → r ≡ count_facts n (facts_of st n) kind
       count_is kind r e = e ∙ ap (λ u. count_facts n (facts n u) kind) is_derived_table
 
-      module _ {counts labels : List ℕ} (labelled : LabelsStand n st counts labels) where
-        pub clash_is : (r : Clash) → ClashTold n t counts labels r → r ≡ clash_of st n
+      module _ {spreads : List Spread} (labelled : LabelsStand n st spreads) where
+        pub clash_is : (r : Option Clash) → ClashTold n t spreads r → r ≡ clash_of st n
         unfolding clash_of
         clash_is r told = told.told st labelled ∙ ap (λ u. clash_in_rows n 0 n st (facts n u)) is_derived_table
 
-        pub support_is : (q : Statement) (r : Bool) → SupportTold n t subjects features children counts labels q r
-            → r ≡ supported st (facts_of st n) q
+        pub support_is : (q : Statement) (r : Bool) → SupportTold n t list spreads q r → r ≡ supported st (facts_of st n) q
         support_is q r told = told.told st stand labelled ∙ ap (λ u. supported st (facts n u) q) is_derived_table
 
-        pub stands : Standing n t starts ends group_features group_children counts labels st
+        pub stands : Standing n t groups spreads st
         stands =
             record {
               names = names;
@@ -85,13 +77,12 @@ module _ {n : ℕ} {subjects features children starts₀ ends₀ features₀ chi
               labelled = labelled;
             }
 
-        pub trial_is : (q : Statement) (r : Bool)
-            → Tried n (Standing n t starts ends group_features group_children counts labels) q r
+        pub trial_is : (q : Statement) (r : Bool) → Tried n (Standing n t groups spreads) q r
             → r ≡ clashes (st ++ (q ∷ [])) n
         trial_is q r tried = tried.answer st stands
 
         -- where no clash is told
-        pub one_label_each : ClashTold n t counts labels Clash.Nowhere → SingleLabels n counts
+        pub one_label_each : ClashTold n t spreads None → SingleLabels n spreads
         unfolding clashes
         one_label_each nowhere =
-            single_labels_lem labelled names (sym (ap is_clash (clash_is Clash.Nowhere nowhere)))
+            single_labels_lem labelled names (sym (ap is_some (clash_is None nowhere)))

@@ -1,6 +1,6 @@
 -- What a trial tells: whether the statements with the question clash.
 use Prim.Native.Nat.{ℕ}
-use lib.ListN.{get_or}
+use lib.ListN.{length}
 use mathlib.Core.Bool.{Bool, true}
 use mathlib.Core.List.{List, [], ◌∷◌, ◌++◌}
 use mathlib.Core.Logic.{⊎_elim}
@@ -8,7 +8,8 @@ use mathlib.Core.Path.{◌≡◌, sym, subst}
 use Rattle.items.specs.declared.items.Statement.{Statement}
 use Rattle.items.specs.Statements.{Names, AllName}
 use Rattle.rules.specs.Stated.{labelling, Stated}
-use Rattle.rules.specs.Facts.{Kind, compatible, fact, Holds, Within}
+use Rattle.rules.specs.declared.kinds.Kind.{Kind}
+use Rattle.rules.specs.Facts.{fact, Holds, Within}
 use Rattle.rules.specs.Tables.{facts}
 use Rattle.rules.specs.Derived.{derived, facts_of}
 use Rattle.rules.specs.Clashes.{labels_differ, clashes_at, clashes}
@@ -18,9 +19,11 @@ use Rattle.rules.proofs.Lists.{all_with}
 use Rattle.rules.proofs.More.{still, last_stated, stated_of}
 use Rattle.rules.proofs.Logic.{both, first_of_and, second_of_and, decided, contrary, same_tests}
 use Rattle.rules.proofs.Tables.{fact_row, fact_column}
-use Rattle.table.specs.Queue.{first_of, second_of, Queued}
+use Rattle.table.specs.Queue.{entry_at, Queued}
 use Rattle.facts.specs.Additions.{Facts}
+use Rattle.selections.specs.declared.grouped.Groups.{Groups}
 use Rattle.selections.specs.Stands.{Selected, SelectionsStand}
+use Rattle.labels.specs.declared.spread.Spread.{Spread}
 use Rattle.labels.specs.Labels.{NoLabelling}
 use Rattle.answers.proofs.OneLabel.{fewer_closed}
 use Rattle.derivation.proofs.Equal.{derived_framed, derived_stated, derived_descends, settled_derived}
@@ -48,26 +51,28 @@ module _ (n : ℕ) (st : List Statement) (q : Statement) (all : AllName n st) (n
   more_differ i j p = differ_of st i j p λ a b s s' d. differ_by (still q s) (still q s') d
 
   -- by a pair to which F5 applies
-  by_pair : (i j : ℕ) → Holds (facts_of more n) compatible i j → labels_differ st i j ≡ true → clashes more n ≡ true
+  by_pair : (i j : ℕ) → Holds (facts_of more n) Kind.Compatible i j → labels_differ st i j ≡ true
+      → clashes more n ≡ true
   unfolding clashes_at
   by_pair i j alike differ =
       decided (clashes more n) (λ c. c)
       (λ c.
       absurd (contrary (both alike (more_differ i j differ))
-      (not_clashing more n c i j (fact_row n _ compatible i j alike) (fact_column n _ compatible i j alike))))
+      (not_clashing more n c i j (fact_row n _ Kind.Compatible i j alike) (fact_column n _ Kind.Compatible i j alike))))
 
   pub still_clashes : clashes st n ≡ true → clashes (st ++ (q ∷ [])) n ≡ true
   unfolding clashes_at
   still_clashes p =
       clashing st n p λ i j least.
-      by_pair i j (stays compatible i j (first_of_and _ _ least.applies))
-      (second_of_and (facts_of st n compatible i j) _ least.applies)
+      by_pair i j (stays Kind.Compatible i j (first_of_and _ _ least.applies))
+      (second_of_and (facts_of st n Kind.Compatible i j) _ least.applies)
 
-module _ {n : ℕ} {st : List Statement} {closed starts ends features children counts labels : List ℕ} {q : Statement}
+module _ {n : ℕ} {st : List Statement} {closed : List ℕ} {groups : Groups} {spreads : List Spread}
+    {q : Statement}
     {selected : Selected} {P : Facts} {r : Bool}
-    (consistent : Consistent n closed starts ends features children counts labels st) (names : Names n q)
-    (states : States n st q selected P) (searched : Searched n selected P closed counts labels r) where
-  abbrev stands : Standing n closed starts ends features children counts labels st
+    (consistent : Consistent n closed groups spreads st) (names : Names n q)
+    (states : States n st q selected P) (searched : Searched n selected P closed spreads r) where
+  abbrev stands : Standing n closed groups spreads st
   stands = consistent.stands
 
   abbrev with_q : List Statement
@@ -108,37 +113,37 @@ module _ {n : ℕ} {st : List Statement} {closed starts ends features children c
   less_differ i j p = differ_of with_q i j p λ a b s s' d. differ_by (labelled i a s) (labelled j b s') d
 
   -- an entry of the queue that clashes
-  entry_clash : QueuedClash n searched.table st searched.queue searched.from searched.tail
+  entry_clash : QueuedClash n searched.table st searched.queue searched.from
       → clashes with_q n ≡ true
   unfolding entry_clashes clashes_at
   entry_clash e =
-      let entry = get_or searched.queue e.at 0 in
-      let alike : Holds (facts n searched.table) compatible (first_of entry) (second_of entry) =
+      let entry = entry_at searched.queue e.at in
+      let alike : Holds (facts n searched.table) Kind.Compatible entry.first.0 entry.second.0 =
       first_of_and _ _ e.applies in
-      by_pair n st q stands.names names (first_of entry) (second_of entry) (rw tried_table at alike)
-      (second_of_and (facts n searched.table compatible (first_of entry) (second_of entry)) _ e.applies)
+      by_pair n st q stands.names names entry.first.0 entry.second.0 (rw tried_table at alike)
+      (second_of_and (facts n searched.table Kind.Compatible entry.first.0 entry.second.0) _ e.applies)
 
   -- a clash is of a pair in the queue
-  pair_queued : (i j : ℕ) → Holds (facts_of with_q n) compatible i j → labels_differ st i j ≡ true
-      → Queued searched.queue searched.from searched.tail i j
+  pair_queued : (i j : ℕ) → Holds (facts_of with_q n) Kind.Compatible i j → labels_differ st i j ≡ true
+      → Queued searched.queue searched.from (length searched.queue) i j
   unfolding clashes_at
   pair_queued i j p d =
       ⊎_elim
       (λ o.
-      let before = fact_old compatible i j o in
+      let before = fact_old Kind.Compatible i j o in
       absurd (contrary (both before d)
-      (not_clashing st n consistent.clear i j (fact_row n _ compatible i j before)
-      (fact_column n _ compatible i j before))))
+      (not_clashing st n consistent.clear i j (fact_row n _ Kind.Compatible i j before)
+      (fact_column n _ Kind.Compatible i j before))))
       (λ e. e)
-      (searched.tries.queued compatible i j (rw tried_table p))
+      (searched.tries.queued Kind.Compatible i j (rw tried_table p))
 
   clash_entry : clashes with_q n ≡ true
-      → QueuedClash n searched.table st searched.queue searched.from searched.tail
+      → QueuedClash n searched.table st searched.queue searched.from
   unfolding entry_clashes clashes_at
   clash_entry p =
       clashing with_q n p λ i j least.
-      let alike : Holds (facts_of with_q n) compatible i j = first_of_and _ _ least.applies in
-      let differ = less_differ i j (second_of_and (facts_of with_q n compatible i j) _ least.applies) in
+      let alike : Holds (facts_of with_q n) Kind.Compatible i j = first_of_and _ _ least.applies in
+      let differ = less_differ i j (second_of_and (facts_of with_q n Kind.Compatible i j) _ least.applies) in
       let e = pair_queued i j alike differ in
       record {
         at = e.at;

@@ -6,33 +6,42 @@ use mathlib.Core.Path.{◌≡◌}
 use native.Mathlib.Omega.{arith}
 use Rattle.fields.specs.Tests.{same}
 use Rattle.fields.proofs.Choice.{same_true, same_false}
-use Rattle.rules.specs.Facts.{Kind, Holds}
+use Rattle.rules.specs.declared.kinds.Kind.{Kind}
+use Rattle.rules.specs.Facts.{Holds}
 use Rattle.rules.specs.Tables.{facts}
 use Rattle.rules.proofs.Logic.{decided}
 use Rattle.rules.proofs.Tables.{fact_row, fact_column}
+use Rattle.table.specs.declared.queue.Entry.{Entry}
 use Rattle.table.specs.Queue.{State, state, Ready}
 use Rattle.table.proofs.Entries.{wider}
 use Rattle.facts.proofs.Moving.{ready_after}
+use Rattle.selections.specs.declared.grouped.Child.{Child}
+use Rattle.selections.specs.declared.grouped.Groups.{Groups}
 use Rattle.selections.specs.declared.trial.Kept.{Kept}
 use Rattle.selections.specs.Groups.{Grouped}
 use Rattle.selections.specs.Trial.{Put}
 use Rattle.selections.specs.Stands.{Selected}
 use Rattle.selections.proofs.Theorems.{put_groups, put_each, put_no_other}
 use Rattle.derivation.specs.Settled.{Handed, Starting, Settled}
-use Rattle.derivation.proofs.Runs.{tail_bound}
 use Rattle.closure.specs.Trials.{TryingSelection, Nothing, WithOne, before, last, Tries, SubjectQueued}
 use Rattle.closure.proofs.Trying.{few_entries}
 
-module _ {n : ℕ} {t queue starts ends features children : List ℕ} {i j : ℕ}
-    (trying : TryingSelection n t queue starts ends features children i j)
-    (f : ℕ) (queue₁ ends' features' children' : List ℕ) (kept : Kept) (tail : ℕ)
-    (put : Put i f j ends features children ends' features' children' kept)
-    (queued : SubjectQueued n i n queue₁ tail) where
+module _ {n : ℕ} {t : List ℕ} {queue : List Entry} {groups : Groups} {i : ℕ} {child : Child}
+    (trying : TryingSelection n t queue groups i child.variable.0)
+    (queue₁ : List Entry) (groups' : Groups) (kept : Kept)
+    (put : Put i child groups groups' kept)
+    (queued : SubjectQueued n i n queue₁) where
+  abbrev f : ℕ
+  f = child.feature.0
+
+  abbrev j : ℕ
+  j = child.variable.0
+
   abbrev old : Selected
-  old = Grouped starts ends features children
+  old = Grouped groups
 
   abbrev new : Selected
-  new = Grouped starts ends' features' children'
+  new = Grouped groups'
 
   -- the groups have the selections from before and the one on trial
   only : (x g y : ℕ) → x < n → new x g y → WithOne old i f j x g y
@@ -48,13 +57,12 @@ module _ {n : ℕ} {t queue starts ends features children : List ℕ} {i j : ℕ
   others x g y h away p =
       ⊎_elim (λ q. q) (λ e. absurd (away e.0)) (put_no_other trying.trying.spare trying.subject put h p)
 
-  subject_ready : Ready n (state t queue₁ tail)
+  subject_ready : Ready n (state t queue₁)
   subject_ready =
       record {
         few = trying.trying.few;
         shape = trying.trying.shape;
-        size = queued.size;
-        room = few_entries n tail _ trying.trying.few (omega (arith, queued.count));
+        room = few_entries n _ _ trying.trying.few (omega (arith, queued.count));
         entries = queued.entries;
       }
 
@@ -70,15 +78,15 @@ module _ {n : ℕ} {t queue starts ends features children : List ℕ} {i j : ℕ
             (others y e y' g away' b);
       }
 
-  pub selection_run : Starting n (state t queue₁ tail) starts ends' features' children'
+  selection_run : Starting n (state t queue₁) groups'
   selection_run =
       record {
         running =
             record {
               ready = subject_ready;
               framed = trying.trying.framed;
-              groups =
-                  put_groups trying.trying.spare trying.subject put trying.child trying.trying.groups;
+              lawful =
+                  put_groups trying.trying.spare trying.subject put trying.child trying.trying.lawful;
             };
         pending = λ kind x y p.
             decided (same x i)
@@ -89,8 +97,8 @@ module _ {n : ℕ} {t queue starts ends features children : List ℕ} {i j : ℕ
             (λ b. inr (apart kind x y p (same_false x i a) (same_false y i b))));
       }
 
-  pub selection_tried : {s : State} → Settled n new (state t queue₁ tail) s
-      → Tries n (WithOne old i f j) Nothing t s.table s.queue (2 * n) s.tail
+  selection_tried : {s : State} → Settled n new (state t queue₁) s
+      → Tries n (WithOne old i f j) Nothing t s.table s.queue (2 * n)
   selection_tried {s} settled =
       let ready = ready_after subject_ready settled.moves in
       record {
@@ -111,10 +119,17 @@ module _ {n : ℕ} {t queue starts ends features children : List ℕ} {i j : ℕ
             })
             within;
         begin = omega (arith, settled.moves.later, queued.count);
-        room = tail_bound ready;
-        size = ready.size;
         entries = ready.entries;
         queued = λ kind x y p.
             ⊎_elim inl (λ q. inr (wider (omega (arith, queued.count)) (omega arith) q))
             (settled.moves.queued kind x y p);
       }
+
+  -- the same, where the call between says its own numbers, table and groups
+  module _ {m : ℕ} {t' : List ℕ} {groups'' : Groups} (same : m ≡ n) (table : t' ≡ t) (grouped : groups'' ≡ groups') where
+    pub selection_may_run : Starting m (state t' queue₁) groups''
+    selection_may_run = rw (same, table, grouped) selection_run
+
+    pub selection_is_tried : {s : State} → Settled m (Grouped groups'') (state t' queue₁) s
+        → Tries n (WithOne old i f j) Nothing t s.table s.queue (2 * n)
+    selection_is_tried settled = selection_tried (rw (same, table, grouped) at settled)

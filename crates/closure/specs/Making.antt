@@ -1,36 +1,40 @@
--- Groups that were made of a selection list, the table that was derived with them, and what can be asked of both.
+-- Groups that were made of a selection list, the table that was derived with them, and what is known of both.
 use Rattle.std.specs.Prelude.{ℕ, List, ◌≡◌}
 use Rattle.headers.specs.Headers.{size_for}
-use Rattle.rules.specs.declared.clashes.Clash.{Clash}
+use Rattle.selections.specs.declared.grouped.Groups.{Groups}
+use Rattle.selections.specs.declared.listed.Selection.{Selection}
 use Rattle.selections.specs.Listed.{Selections}
 use Rattle.selections.specs.Places.{Grouping}
 use Rattle.labels.specs.declared.spread.Spread.{Spread}
 use Rattle.labels.specs.Spreads.{spread_below}
 use Rattle.answers.specs.Clashes.{ClashTold}
+use Rattle.derivation.specs.declared.pairs.Pair.{Pair}
 use Rattle.derivation.specs.Stands.{Pairs, DerivedFrom}
-use Rattle.closure.specs.Trials.{Trying}
+use Rattle.closure.specs.declared.closed.Closed.{Closed}
 
 -- lawful lists, and the size of a table for them
-pub record Lawful (n : ℕ) (cells lefts rights subjects features children : List ℕ) (size : ℕ) : Type 0 where
-  pub pairs : Pairs n cells lefts rights
-  pub selections : Selections n subjects features children
+pub record Lawful (n : ℕ) (pairs : List Pair) (list : List Selection) (size : ℕ) : Type 0 where
+  pub lawful_pairs : Pairs n pairs
+  pub lawful_selections : Selections n list
   pub square : size ≡ size_for n
 
 -- groups and a table, of lawful lists
-pub record Made (n : ℕ) (cells lefts rights subjects features children : List ℕ)
-    (starts ends group_features group_children t : List ℕ) : Type 0 where
-  pub starts₀ : List ℕ
-  pub ends₀ : List ℕ
-  pub features₀ : List ℕ
-  pub children₀ : List ℕ
-  pub grouping : Grouping n subjects features children starts₀ ends₀ features₀ children₀ starts ends group_features
-      group_children
-  pub from : DerivedFrom n cells lefts rights starts ends group_features group_children t
+pub record Made (n : ℕ) (pairs : List Pair) (list : List Selection) (groups : Groups) (t : List ℕ) : Type 0 where
+  pub before : Groups
+  pub grouping : Grouping n list before groups
+  pub from : DerivedFrom n pairs groups t
 
--- a closed table with a copy, the groups that it is closed by, its labels, and what is told of them
-pub record Answerable (n : ℕ) (closed t queue starts ends features children counts labels : List ℕ) (clash : Clash)
-    (spread : Spread) : Type 0 where
-  pub copied : t ≡ closed
-  pub trying : Trying n closed queue starts ends features children
-  pub clash_told : ClashTold n closed counts labels clash
-  pub spread_told : spread ≡ spread_below n counts labels
+-- of how many variables closed statements are, their table's bytes, their selections and the labels of each variable
+abbrev pub variables_of : Closed → ℕ
+variables_of c = c.table.now.n
+
+abbrev pub table_of : Closed → List ℕ
+table_of c = c.table.now.cells.now
+
+abbrev pub spreads_of : Closed → List Spread
+spreads_of c = c.labels.now.spreads
+
+-- what is told of them is so
+pub record IsTold (c : Closed) : Type 0 where
+  pub clash : ClashTold (variables_of c) (table_of c) (spreads_of c) c.clash
+  pub spread : c.spread ≡ spread_below (variables_of c) (spreads_of c)

@@ -1,8 +1,10 @@
-// Closure: the trial of one statement more, and what all is told of statements in the lent arrays.
+// Closure: what is known of statements whose facts are all derived, and the trial of one statement more.
 #![tactic(auto)]
 
+mod closed;
 mod making;
 mod trials;
 
+pub use closed::Closed;
 pub use making::make;
-pub use trials::{is_clash, trial};
+pub use trials::trial;

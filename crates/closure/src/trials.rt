@@ -1,125 +1,80 @@
 // Trials: whether one statement more would clash.
-ghost use Rattle.std.specs.Prelude.{◌*◌, length, ◌≡◌};
-ghost use Rattle.rules.specs.Clashes.{is_clash};
-ghost use Rattle.table.specs.Queue.{queue_room};
+ghost use Rattle.std.specs.Prelude.{◌*◌, ◌≡◌};
 ghost use Rattle.facts.specs.Additions.{Said};
+ghost use Rattle.facts.specs.Growth.{IsSame};
 ghost use Rattle.selections.specs.Groups.{Grouped};
-ghost use Rattle.labels.specs.Spreads.{spread_below};
-ghost use Rattle.answers.specs.Clashes.{ClashTold};
+ghost use Rattle.closure.specs.Making.{variables_of, table_of, spreads_of, IsTold};
 ghost use Rattle.closure.specs.Trials.{TryingFact, TryingSelection, Tries, Restored, Queueing};
 ghost use Rattle.closure.specs.Trials.{SubjectQueued, Searching, EntryTold, Sought, QueueTold, Searched};
 ghost use Rattle.closure.specs.Trials.{WithOne, Nothing, Standing, Consistent, Tried, Asking};
 
+use crate::closed::Closed;
 use answers::label_clashes;
 use derivation::run;
-use facts::{insert, restore};
-use fields::MOST_VARIABLES;
+use facts::Growth;
 use items::Statement;
-use labels::{Spread, can_clash, labels_differ};
-use rules::Clash;
-use selections::{PLACES, put, take_out};
-use table::{ROOM, first_of, look, push, says_compatible, second_of, wide};
+use labels::Labels;
+use rules::Kind;
+use selections::{Child, Groups};
+use table::{Entry, push, says};
 
-// Adds to a closed table what w says of i and j, and all that follows: how many entries were queued.
-fn try_fact(
-    t: &mut [u8],
-    n: usize,
-    w: u8,
-    i: usize,
-    j: usize,
-    starts: &[usize; MOST_VARIABLES],
-    ends: &[usize; MOST_VARIABLES],
-    features: &[u16; PLACES],
-    children: &[u8; PLACES],
-    queue: &mut [u16; ROOM],
-) -> usize
-    requires { TryingFact n t.old queue.old starts.now ends.now features.now children.now w i j }
-    ensures { Tries n
-        (Grouped starts.now ends.now features.now children.now)
-        (Said w i j) t.old t.new queue.new 0 result }
+// Adds to a closed table what w says of i and j, and all that follows.
+fn try_fact(growth: &mut Growth, groups: &Groups, w: u8, i: usize, j: usize)
+    requires { TryingFact growth.old.n growth.old.cells.now growth.old.queue.now.items groups.now w i j }
+    ensures tries { Tries growth.old.n (Grouped groups.now) (Said w i j)
+        growth.old.cells.now growth.new.cells.now growth.new.queue.now.items 0 }
+    ensures same { IsSame growth.old growth.new }
 {
-    let tail = insert(t, n, w, i, j, queue, 0);
-    run(t, n, starts, ends, features, children, queue, tail)
+    growth.insert(w, i, j);
+    run(growth, groups);
 }
 
 // Queues each pair that i is in.
-fn queue_subject(n: usize, i: usize, queue: &mut [u16; ROOM]) -> usize
-    requires { Queueing n i queue.old }
-    ensures { SubjectQueued n i n queue.new result }
+fn queue_subject(growth: &mut Growth, i: usize)
+    requires { Queueing growth.old.n i growth.old.queue.now.items }
+    ensures queued { SubjectQueued growth.old.n i growth.old.n growth.new.queue.now.items }
+    ensures table { growth.new.cells.now ≡ growth.old.cells.now }
+    ensures same { IsSame growth.old growth.new }
 {
-    let mut tail = 0;
-    let mut x = 0;
-    while x < n {
-        tail = push(queue, tail, i, x);
-        tail = push(queue, tail, x, i);
-        x += 1;
+    for x in 0..growth.n {
+        push(growth.queue, i, x);
+        push(growth.queue, x, i);
     }
-    tail
 }
 
-// Adds to a closed table all that follows with i[f]j: how many pairs were queued, the 2 × n of i first.
-fn try_selection(
-    t: &mut [u8],
-    n: usize,
-    i: usize,
-    f: u16,
-    j: u8,
-    starts: &[usize; MOST_VARIABLES],
-    ends: &mut [usize; MOST_VARIABLES],
-    features: &mut [u16; PLACES],
-    children: &mut [u8; PLACES],
-    queue: &mut [u16; ROOM],
-) -> usize
-    requires { TryingSelection n t.old queue.old starts.now ends.old features.old children.old i j }
-    ensures tries { Tries n
-        (WithOne (Grouped starts.now ends.old features.old children.old) i f j)
-        Nothing t.old t.new queue.new (2 * n) result }
-    ensures restored { Restored ends.old features.old children.old ends.new
-        features.new children.new queue.new }
+// Adds to a closed table all that follows with a child of i: the first 2 × n entries are the pairs of i.
+fn try_selection(growth: &mut Growth, groups: &mut Groups, i: usize, child: Child)
+    requires { TryingSelection growth.old.n growth.old.cells.now growth.old.queue.now.items groups.old i
+        child.variable.0 }
+    ensures tries { Tries growth.old.n
+        (WithOne (Grouped groups.old) i child.feature.0 child.variable.0)
+        Nothing growth.old.cells.now growth.new.cells.now growth.new.queue.now.items (2 * growth.old.n) }
+    ensures same { IsSame growth.old growth.new }
+    ensures grouped { groups.new ≡ groups.old }
 {
-    let kept = put(ends, features, children, i, f, j);
-    let queued = queue_subject(n, i, queue);
-    let tail = run(t, n, starts, ends, features, children, queue, queued);
-    take_out(ends, features, children, i, kept);
-    tail
+    let kept = groups.put(i, child);
+    queue_subject(growth, i);
+    run(growth, groups);
+    groups.take_out(i, kept);
 }
 
 // Whether an entry's variables are compatible and have different labels.
-fn clashes_at(
-    t: &[u8],
-    n: usize,
-    counts: &[u8; MOST_VARIABLES],
-    labels: &[u16; MOST_VARIABLES],
-    entry: u16,
-) -> bool
-    requires { Searching n t.now entry }
-    ensures { EntryTold n t.now counts.now labels.now entry result }
+fn clashes_at(growth: &Growth, labels: &Labels, entry: Entry) -> bool
+    requires { Searching growth.now.n growth.now.cells.now entry }
+    ensures { EntryTold growth.now.n growth.now.cells.now labels.now.spreads entry result }
 {
-    let i = first_of(entry);
-    let j = second_of(entry);
-    if says_compatible(look(t, n, i, j)) {
-        return labels_differ(counts, labels, i, j);
-    }
-    false
+    let i = entry.first.index();
+    let j = entry.second.index();
+    says(Kind::Compatible, growth.look(i, j)) && labels.differ(i, j)
 }
 
-// Whether such an entry is in the queue, from one place up to another.
-fn clash_queued(
-    t: &[u8],
-    n: usize,
-    counts: &[u8; MOST_VARIABLES],
-    labels: &[u16; MOST_VARIABLES],
-    queue: &[u16; ROOM],
-    from: usize,
-    tail: usize,
-) -> bool
-    requires { Sought n t.now queue.now from tail }
-    ensures { QueueTold n t.now counts.now labels.now queue.now from tail result }
+// Whether such an entry is in the queue, from one place on.
+fn clash_queued(growth: &Growth, labels: &Labels, from: usize) -> bool
+    requires { Sought growth.now.n growth.now.cells.now growth.now.queue.now.items }
+    ensures { QueueTold growth.now.n growth.now.cells.now labels.now.spreads growth.now.queue.now.items from result }
 {
-    let mut left = tail;
-    while from < left {
-        left -= 1;
-        if clashes_at(t, n, counts, labels, queue[left]) {
+    for k in from..growth.queue.len() {
+        if clashes_at(growth, labels, growth.queue[k]) {
             return true;
         }
     }
@@ -128,210 +83,112 @@ fn clash_queued(
 
 // Whether a fact on trial clashes, tried in a copy of the closed table.
 fn fact_clashes(
-    closed: &[u8],
-    t: &mut [u8],
-    n: usize,
+    closed: &Closed,
+    growth: &mut Growth,
+    groups: &Groups,
     w: u8,
     i: usize,
     j: usize,
-    starts: &[usize; MOST_VARIABLES],
-    ends: &[usize; MOST_VARIABLES],
-    features: &[u16; PLACES],
-    children: &[u8; PLACES],
-    counts: &[u8; MOST_VARIABLES],
-    labels: &[u16; MOST_VARIABLES],
-    queue: &mut [u16; ROOM],
 ) -> bool
-    requires trying { TryingFact n t.old queue.old starts.now ends.now features.now children.now w i j }
-    requires copied { t.old ≡ closed.now }
-    ensures searched { Searched n
-        (Grouped starts.now ends.now features.now children.now)
-        (Said w i j) closed.now counts.now labels.now result }
-    ensures copied { t.new ≡ closed.now }
-    ensures queue_kept { length queue.new ≡ queue_room }
+    requires trying { TryingFact growth.old.n growth.old.cells.now growth.old.queue.now.items groups.now w i j }
+    requires sizes { variables_of closed.now ≡ growth.old.n }
+    requires copied { growth.old.cells.now ≡ table_of closed.now }
+    ensures searched { Searched growth.old.n (Grouped groups.now) (Said w i j)
+        (table_of closed.now) (spreads_of closed.now) result }
+    ensures restored { Restored growth.old growth.new groups.now groups.now }
 {
-    let tail = try_fact(t, n, w, i, j, starts, ends, features, children, queue);
-    let found = clash_queued(t, n, counts, labels, queue, 0, tail);
-    restore(closed, t, n, queue, 0, tail);
+    try_fact(growth, groups, w, i, j);
+    let found = clash_queued(growth, closed.labels, 0);
+    growth.restore(closed.table, 0);
     found
 }
 
 // Whether a selection on trial clashes, tried in a copy of the closed table.
 fn selection_clashes(
-    closed: &[u8],
-    t: &mut [u8],
-    n: usize,
+    closed: &Closed,
+    growth: &mut Growth,
+    groups: &mut Groups,
     i: usize,
-    f: u16,
-    j: u8,
-    starts: &[usize; MOST_VARIABLES],
-    ends: &mut [usize; MOST_VARIABLES],
-    features: &mut [u16; PLACES],
-    children: &mut [u8; PLACES],
-    counts: &[u8; MOST_VARIABLES],
-    labels: &[u16; MOST_VARIABLES],
-    queue: &mut [u16; ROOM],
+    child: Child,
 ) -> bool
-    requires trying { TryingSelection n t.old queue.old starts.now ends.old features.old children.old i j }
-    requires copied { t.old ≡ closed.now }
-    ensures searched { Searched n
-        (WithOne (Grouped starts.now ends.old features.old children.old) i f j)
-        Nothing closed.now counts.now labels.now result }
-    ensures copied { t.new ≡ closed.now }
-    ensures restored { Restored ends.old features.old children.old ends.new
-        features.new children.new queue.new }
+    requires trying { TryingSelection growth.old.n growth.old.cells.now growth.old.queue.now.items groups.old i
+        child.variable.0 }
+    requires sizes { variables_of closed.now ≡ growth.old.n }
+    requires copied { growth.old.cells.now ≡ table_of closed.now }
+    ensures searched { Searched growth.old.n
+        (WithOne (Grouped groups.old) i child.feature.0 child.variable.0)
+        Nothing (table_of closed.now) (spreads_of closed.now) result }
+    ensures restored { Restored growth.old growth.new groups.old groups.new }
 {
-    let tail = try_selection(t, n, i, f, j, starts, ends, features, children, queue);
-    let from = 2 * n;
-    let found = clash_queued(t, n, counts, labels, queue, from, tail);
-    restore(closed, t, n, queue, from, tail);
+    try_selection(growth, groups, i, child);
+    let from = 2 * growth.n;
+    let found = clash_queued(growth, closed.labels, from);
+    growth.restore(closed.table, from);
     found
 }
 
 // Whether a statement on trial clashes with statements that do not clash.
-fn try_statement(
-    closed: &[u8],
-    t: &mut [u8],
-    n: usize,
-    q: Statement,
-    starts: &[usize; MOST_VARIABLES],
-    ends: &mut [usize; MOST_VARIABLES],
-    features: &mut [u16; PLACES],
-    children: &mut [u8; PLACES],
-    counts: &[u8; MOST_VARIABLES],
-    labels: &[u16; MOST_VARIABLES],
-    queue: &mut [u16; ROOM],
-) -> bool
-    requires { Asking n closed.now t.old queue.old starts.now ends.old features.old children.old q }
-    ensures tried { Tried n
-        (Consistent n closed.now starts.now ends.old features.old
-        children.old counts.now labels.now) q result }
-    ensures copied { t.new ≡ closed.now }
-    ensures restored { Restored ends.old features.old children.old ends.new
-        features.new children.new queue.new }
+fn try_statement(closed: &Closed, growth: &mut Growth, groups: &mut Groups, q: Statement) -> bool
+    requires sizes { variables_of closed.now ≡ growth.old.n }
+    requires asking { Asking (table_of closed.now) growth.old groups.old q }
+    ensures tried { Tried growth.old.n
+        (Consistent growth.old.n (table_of closed.now) groups.old (spreads_of closed.now)) q result }
+    ensures restored { Restored growth.old growth.new groups.old groups.new }
 {
     match q {
-        Statement::Ordering(i, j) => fact_clashes(
-            closed,
-            t,
-            n,
-            1,
-            wide(i.0),
-            wide(j.0),
-            starts,
-            ends,
-            features,
-            children,
-            counts,
-            labels,
-            queue,
-        ),
+        Statement::Ordering(i, j) => fact_clashes(closed, growth, groups, 1, i.index(), j.index()),
         Statement::Compatibility(i, j) => fact_clashes(
             closed,
-            t,
-            n,
+            growth,
+            groups,
             2,
-            wide(i.0),
-            wide(j.0),
-            starts,
-            ends,
-            features,
-            children,
-            counts,
-            labels,
-            queue,
+            i.index(),
+            j.index(),
         ),
-        Statement::Selection(i, f, j) => selection_clashes(
-            closed,
-            t,
-            n,
-            wide(i.0),
-            f.0,
-            j.0,
-            starts,
-            ends,
-            features,
-            children,
-            counts,
-            labels,
-            queue,
-        ),
-        Statement::Labelling(i, a) => label_clashes(closed, n, counts, labels, wide(i.0), a.0),
+        Statement::Selection(i, feature, variable) => {
+            selection_clashes(
+                closed,
+                growth,
+                groups,
+                i.index(),
+                Child { feature, variable },
+            )
+        }
+        Statement::Labelling(i, a) => label_clashes(closed.table, closed.labels, i.index(), a),
     }
 }
 
 // The same, tried only where two labels differ at all.
 fn try_where_labels_differ(
-    closed: &[u8],
-    t: &mut [u8],
-    n: usize,
-    spread: Spread,
+    closed: &Closed,
+    growth: &mut Growth,
+    groups: &mut Groups,
     q: Statement,
-    starts: &[usize; MOST_VARIABLES],
-    ends: &mut [usize; MOST_VARIABLES],
-    features: &mut [u16; PLACES],
-    children: &mut [u8; PLACES],
-    counts: &[u8; MOST_VARIABLES],
-    labels: &[u16; MOST_VARIABLES],
-    queue: &mut [u16; ROOM],
 ) -> bool
-    requires asking { Asking n closed.now t.old queue.old starts.now ends.old features.old children.old q }
-    requires spread_told { spread ≡ spread_below n counts.now labels.now }
-    ensures tried { Tried n
-        (Consistent n closed.now starts.now ends.old features.old
-        children.old counts.now labels.now) q result }
-    ensures copied { t.new ≡ closed.now }
-    ensures restored { Restored ends.old features.old children.old ends.new
-        features.new children.new queue.new }
+    requires sizes { variables_of closed.now ≡ growth.old.n }
+    requires asking { Asking (table_of closed.now) growth.old groups.old q }
+    requires told { IsTold closed.now }
+    ensures tried { Tried growth.old.n
+        (Consistent growth.old.n (table_of closed.now) groups.old (spreads_of closed.now)) q result }
+    ensures restored { Restored growth.old growth.new groups.old groups.new }
 {
-    if can_clash(spread, q) {
-        return try_statement(
-            closed, t, n, q, starts, ends, features, children, counts, labels, queue,
-        );
+    if closed.spread.can_clash(q) {
+        return try_statement(closed, growth, groups, q);
     }
     false
 }
 
-// Whether a pair clashes.
-pub fn is_clash(clash: Clash) -> bool
-    ensures { result ≡ is_clash clash }
+// Whether closed statements clash with q behind them, tried in a copy of their table with an empty queue.
+pub fn trial(closed: &Closed, growth: &mut Growth, groups: &mut Groups, q: Statement) -> bool
+    requires sizes { variables_of closed.now ≡ growth.old.n }
+    requires asking { Asking (table_of closed.now) growth.old groups.old q }
+    requires told { IsTold closed.now }
+    ensures tried { Tried growth.old.n
+        (Standing growth.old.n (table_of closed.now) groups.old (spreads_of closed.now)) q result }
+    ensures restored { Restored growth.old growth.new groups.old groups.new }
 {
-    match clash {
-        Clash::Nowhere => false,
-        Clash::Between(i, j) => true,
-    }
-}
-
-// Whether the statements clash with q behind them: the clash is theirs without q, and t a copy of the closed table.
-pub fn trial(
-    closed: &[u8],
-    t: &mut [u8],
-    n: usize,
-    clash: Clash,
-    spread: Spread,
-    q: Statement,
-    starts: &[usize; MOST_VARIABLES],
-    ends: &mut [usize; MOST_VARIABLES],
-    features: &mut [u16; PLACES],
-    children: &mut [u8; PLACES],
-    counts: &[u8; MOST_VARIABLES],
-    labels: &[u16; MOST_VARIABLES],
-    queue: &mut [u16; ROOM],
-) -> bool
-    requires asking { Asking n closed.now t.old queue.old starts.now ends.old features.old children.old q }
-    requires clash_told { ClashTold n closed.now counts.now labels.now clash }
-    requires spread_told { spread ≡ spread_below n counts.now labels.now }
-    ensures tried { Tried n
-        (Standing n closed.now starts.now ends.old features.old
-        children.old counts.now labels.now) q result }
-    ensures copied { t.new ≡ closed.now }
-    ensures restored { Restored ends.old features.old children.old ends.new
-        features.new children.new queue.new }
-{
-    if is_clash(clash) {
+    if closed.clash.is_some() {
         return true;
     }
-    try_where_labels_differ(
-        closed, t, n, spread, q, starts, ends, features, children, counts, labels, queue,
-    )
+    try_where_labels_differ(closed, growth, groups, q)
 }

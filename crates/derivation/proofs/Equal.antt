@@ -5,7 +5,8 @@ use mathlib.Core.Path.{◌≡◌}
 use Rattle.items.specs.declared.items.Statement.{Statement}
 use Rattle.items.specs.Statements.{AllName}
 use Rattle.rules.specs.Stated.{Stated}
-use Rattle.rules.specs.Facts.{Kind, fact, Holds, Within, Closed}
+use Rattle.rules.specs.declared.kinds.Kind.{Kind}
+use Rattle.rules.specs.Facts.{fact, Holds, Within, Closed}
 use Rattle.rules.specs.Tables.{facts, Shape}
 use Rattle.rules.specs.Derived.{derived, facts_of}
 use Rattle.rules.proofs.Derived.{derived_closed, is_derived}

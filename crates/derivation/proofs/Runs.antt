@@ -1,24 +1,27 @@
 -- The run of the queue: what holds on the way, entry by entry, and at its end.
 use Prim.Native.Nat.{ℕ, ◌+◌, ◌<◌, ◌≤◌}
-use lib.ListN.{get_or}
-use mathlib.Core.List.{List}
+use lib.ListN.{length}
 use mathlib.Core.Logic.{◌⊎◌, inl, inr, ⊎_elim}
 use mathlib.Core.Path.{◌≡◌, ap, ◌∙◌}
 use native.Mathlib.Omega.{arith}
-use Rattle.rules.specs.Facts.{Kind, Relation, Holds, Within}
+use Rattle.rules.specs.declared.kinds.Kind.{Kind}
+use Rattle.rules.specs.Facts.{Relation, Holds, Within}
 use Rattle.rules.specs.Tables.{facts}
 use Rattle.rules.proofs.Tables.{fact_row, fact_column}
-use Rattle.table.specs.Queue.{first_of, second_of, Queued, State, Ready, queue_room}
+use Rattle.table.specs.declared.queue.Entry.{Entry}
+use Rattle.table.specs.Queue.{entry_at, Queued, State, Ready, queue_room}
 use Rattle.table.proofs.Entries.{wider, carried, first_or_later}
 use Rattle.facts.specs.Additions.{Moves, Framed, Steps}
 use Rattle.facts.proofs.Moving.{moves_none, moves_then, ready_after, fact_bound}
+use Rattle.selections.specs.declared.grouped.Groups.{Groups}
 use Rattle.selections.specs.Groups.{Grouped}
 use Rattle.selections.specs.Stands.{Selected}
 use Rattle.derivation.specs.Descent.{Visited}
 use Rattle.derivation.specs.Settled.{Handed, Descends, Pending, Starting, Settled}
+use Rattle.derivation.proofs.Descending.{to_size}
 
 -- the queue is no longer than its room
-pub tail_bound : {n : ℕ} {s : State} → Ready n s → s.tail ≤ queue_room
+pub tail_bound : {n : ℕ} {s : State} → Ready n s → length s.queue ≤ queue_room
 tail_bound {n} {s} ready = omega (arith, ready.room, fact_bound n s.table)
 
 -- what is handed down in a set of facts is so in a larger one
@@ -30,17 +33,17 @@ handed_on {kind = kind} grows p = record { down = λ f i' j' a b. grows kind i' 
 pub record Halfway (n : ℕ) (selected : Selected) (s s' : State) (head : ℕ) : Type 0 where
   pub moves : Moves n s s'
   pub framed : Framed n (facts n s'.table)
-  pub passed : head ≤ s'.tail
+  pub passed : head ≤ length s'.queue
   pub pending : Pending n selected head s'
   pub within : (r : Relation) → Framed n r → Descends n selected r → Within (facts n s.table) r
       → Within (facts n s'.table) r
 
-module _ {n : ℕ} {s : State} {starts ends features children : List ℕ}
-    (starting : Starting n s starts ends features children) where
+module _ {n : ℕ} {s : State} {groups : Groups}
+    (starting : Starting n s groups) where
   abbrev chosen : Selected
-  chosen = Grouped starts ends features children
+  chosen = Grouped groups
 
-  pub halfway_start : Halfway n (Grouped starts ends features children) s s 0
+  pub halfway_start : Halfway n (Grouped groups) s s 0
   halfway_start =
       record {
         moves = moves_none s starting.running.ready.shape;
@@ -50,15 +53,18 @@ module _ {n : ℕ} {s : State} {starts ends features children : List ℕ}
         within = λ r framed descends old. old;
       }
 
-  module _ {s' : State} {head : ℕ} (half : Halfway n (Grouped starts ends features children) s s' head) where
+  module _ {s' : State} {head : ℕ} (half : Halfway n (Grouped groups) s s' head) where
     pub halfway_ready : Ready n s'
     halfway_ready = ready_after starting.running.ready half.moves
 
     -- one more entry is visited
-    module _ {s'' : State} (entry : ℕ) (e : entry ≡ get_or s'.queue head 0) (h : head < s'.tail)
-        (steps : Steps n (Visited n s'.table starts ends features children entry) s' s'') where
-      handed_entry : (kind : Kind) → Holds (facts n s'.table) kind (first_of entry) (second_of entry)
-          → Handed chosen (facts n s''.table) kind (first_of entry) (second_of entry)
+    module _ {m : ℕ} {s'' : State} (entry : Entry) (same : m ≡ n) (e : entry ≡ entry_at s'.queue head)
+        (h : head < length s'.queue) (visited : Steps m (Visited m s'.table groups entry) s' s'') where
+      steps : Steps n (Visited n s'.table groups entry) s' s''
+      steps = to_size (λ z. Steps z (Visited z s'.table groups entry) s' s'') same visited
+
+      handed_entry : (kind : Kind) → Holds (facts n s'.table) kind entry.first.0 entry.second.0
+          → Handed chosen (facts n s''.table) kind entry.first.0 entry.second.0
       handed_entry kind p =
           record {
             down = λ f i' j' a b.
@@ -66,13 +72,13 @@ module _ {n : ℕ} {s : State} {starts ends features children : List ℕ}
           }
 
       from_queue : (kind : Kind) (i j : ℕ) → Holds (facts n s'.table) kind i j
-          → Queued s'.queue head s'.tail i j
-          → Queued s''.queue (head + 1) s''.tail i j ⊎ Handed chosen (facts n s''.table) kind i j
+          → Queued s'.queue head (length s'.queue) i j
+          → Queued s''.queue (head + 1) (length s''.queue) i j ⊎ Handed chosen (facts n s''.table) kind i j
       from_queue kind i j p q =
           first_or_later q
           (λ a b.
-          let x : first_of entry ≡ i = ap first_of e ∙ a in
-          let y : second_of entry ≡ j = ap second_of e ∙ b in
+          let x : entry.first.0 ≡ i = ap (λ z. z.first.0) e ∙ a in
+          let y : entry.second.0 ≡ j = ap (λ z. z.second.0) e ∙ b in
           inr (rw (← x, ← y) (handed_entry kind (rw (x, y) p))))
           (λ later. inl (wider (omega arith) steps.moves.later (carried steps.moves.kept later)))
 
@@ -84,7 +90,7 @@ module _ {n : ℕ} {s : State} {starts ends features children : List ℕ}
           (λ q. inl (wider (omega arith) (omega arith) q))
           (steps.moves.queued kind i j p)
 
-      pub halfway_next : Halfway n (Grouped starts ends features children) s s'' (head + 1)
+      pub halfway_next : Halfway n (Grouped groups) s s'' (head + 1)
       halfway_next =
           record {
             moves = moves_then half.moves steps.moves;
@@ -94,13 +100,13 @@ module _ {n : ℕ} {s : State} {starts ends features children : List ℕ}
             within = λ r framed descends old.
                 let before = half.within r framed descends old in
                 steps.within r framed before λ kind x y p.
-                (descends kind (first_of entry) (second_of entry) (fact_row n s'.table kind _ _ p.parents)
+                (descends kind entry.first.0 entry.second.0 (fact_row n s'.table kind _ _ p.parents)
                 (fact_column n s'.table kind _ _ p.parents) (before kind _ _ p.parents)).down p.feature x y
                 p.first p.second;
           }
 
     -- none is left
-    pub halfway_end : s'.tail ≤ head → Settled n (Grouped starts ends features children) s s'
+    pub halfway_end : length s'.queue ≤ head → Settled n (Grouped groups) s s'
     halfway_end h =
         record {
           moves = half.moves;

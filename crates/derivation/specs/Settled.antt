@@ -1,9 +1,11 @@
 -- The run of the queue: at its end no rule adds a fact.
-use Rattle.std.specs.Prelude.{ℕ, ◌<◌, List, ◌⊎◌}
-use Rattle.rules.specs.Facts.{Kind, Relation, Holds, Within}
+use Rattle.std.specs.Prelude.{ℕ, ◌<◌, length, ◌⊎◌}
+use Rattle.rules.specs.declared.kinds.Kind.{Kind}
+use Rattle.rules.specs.Facts.{Relation, Holds, Within}
 use Rattle.rules.specs.Tables.{facts}
 use Rattle.table.specs.Queue.{Queued, State}
 use Rattle.facts.specs.Additions.{Moves, Framed}
+use Rattle.selections.specs.declared.grouped.Groups.{Groups}
 use Rattle.selections.specs.Groups.{Grouped}
 use Rattle.selections.specs.Stands.{Selected}
 use Rattle.derivation.specs.Descent.{Running}
@@ -20,12 +22,12 @@ Descends n selected r = (kind : Kind) (i j : ℕ) → i < n → j < n → Holds 
 abbrev pub Pending : ℕ → Selected → ℕ → State → Type 0
 Pending n selected head s =
     (kind : Kind) (i j : ℕ) → Holds (facts n s.table) kind i j
-    → Queued s.queue head s.tail i j ⊎ Handed selected (facts n s.table) kind i j
+    → Queued s.queue head (length s.queue) i j ⊎ Handed selected (facts n s.table) kind i j
 
 -- the queue may be run
-pub record Starting (n : ℕ) (s : State) (starts ends features children : List ℕ) : Type 0 where
-  pub running : Running n s starts ends features children
-  pub pending : Pending n (Grouped starts ends features children) 0 s
+pub record Starting (n : ℕ) (s : State) (groups : Groups) : Type 0 where
+  pub running : Running n s groups
+  pub pending : Pending n (Grouped groups) 0 s
 
 -- the rules add nothing to the table any more, and it has no fact that they do not give
 pub record Settled (n : ℕ) (selected : Selected) (s s' : State) : Type 0 where

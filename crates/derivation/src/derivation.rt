@@ -1,61 +1,37 @@
 // Derivation: all that the rules give from stated pairs and selections.
-ghost use Rattle.std.specs.Prelude.{◌*◌, length, ◌≡◌};
-ghost use Rattle.table.specs.Queue.{state, queue_room};
+ghost use Rattle.std.specs.Prelude.{◌*◌, [], length, ◌≡◌};
 ghost use Rattle.facts.specs.Additions.{Steps};
+ghost use Rattle.facts.specs.Growth.{state_of, IsSame};
 ghost use Rattle.derivation.specs.Stands.{Paired, InsertingPairs, Deriving, DerivedFrom};
 
 use crate::descent::run;
-use facts::{insert, insert_reflexive};
-use fields::MOST_VARIABLES;
-use selections::PLACES;
-use table::{ROOM, clear, wide};
+use crate::pairs::Pair;
+use facts::Growth;
+use selections::Groups;
 
-// Inserts what each stated cell says of its two variables.
-fn insert_pairs(
-    t: &mut [u8],
-    n: usize,
-    cells: &[u8],
-    lefts: &[u8],
-    rights: &[u8],
-    queue: &mut [u16; ROOM],
-    tail: usize,
-) -> usize
-    requires { InsertingPairs n (state t.old queue.old tail) cells.now lefts.now rights.now }
-    ensures { Steps n (Paired cells.now lefts.now rights.now)
-        (state t.old queue.old tail) (state t.new queue.new result) }
+// Inserts what each stated pair says.
+fn insert_pairs(growth: &mut Growth, pairs: &[Pair])
+    requires { InsertingPairs growth.old.n (state_of growth.old) pairs.now }
+    ensures steps { Steps growth.old.n (Paired pairs.now) (state_of growth.old) (state_of growth.new) }
+    ensures same { IsSame growth.old growth.new }
 {
-    let mut next = tail;
-    let mut k = 0;
-    while k < cells.len() {
-        next = insert(t, n, cells[k], wide(lefts[k]), wide(rights[k]), queue, next);
-        k += 1;
+    for pair in pairs {
+        growth.insert(pair.cell, pair.left.index(), pair.right.index());
     }
-    next
 }
 
-// Fills the table with all facts that follow from the stated pairs and the selections; the queue is room to work in.
-pub fn derive(
-    t: &mut [u8],
-    n: usize,
-    cells: &[u8],
-    lefts: &[u8],
-    rights: &[u8],
-    starts: &[usize; MOST_VARIABLES],
-    ends: &[usize; MOST_VARIABLES],
-    features: &[u16; PLACES],
-    children: &[u8; PLACES],
-    queue: &mut [u16; ROOM],
-)
-    requires square { length t.old ≡ n * n }
-    requires queue_len { length queue.old ≡ queue_room }
-    requires lawful { Deriving n cells.now lefts.now rights.now starts.now ends.now features.now
-        children.now }
-    ensures derived_from { DerivedFrom n cells.now lefts.now rights.now starts.now
-        ends.now features.now children.now t.new }
-    ensures queue_kept { length queue.new ≡ queue_room }
+// Fills the table with all facts that follow from the stated pairs and the selections.
+pub fn derive(growth: &mut Growth, pairs: &[Pair], groups: &Groups)
+    requires square { length growth.old.cells.now ≡ growth.old.n * growth.old.n }
+    requires lawful { Deriving growth.old.n pairs.now groups.now }
+    ensures derived_from { DerivedFrom growth.old.n pairs.now groups.now growth.new.cells.now }
+    ensures emptied { growth.new.queue.now.items ≡ [] }
+    ensures same { IsSame growth.old growth.new }
 {
-    clear(t);
-    let mut tail = insert_reflexive(t, n, queue);
-    tail = insert_pairs(t, n, cells, lefts, rights, queue, tail);
-    run(t, n, starts, ends, features, children, queue, tail);
+    growth.clear();
+    growth.queue.clear();
+    growth.insert_reflexive();
+    insert_pairs(growth, pairs);
+    run(growth, groups);
+    growth.queue.clear();
 }

@@ -1,240 +1,141 @@
 // Descent: what holds of two variables is handed down to their children at common features, by F2 and F4.
-ghost use Rattle.std.specs.Prelude.{◌≡◌};
-ghost use Rattle.table.specs.Queue.{state};
+ghost use Rattle.std.specs.Prelude.{MatchOption, ◌≡◌};
 ghost use Rattle.facts.specs.Additions.{Steps};
+ghost use Rattle.facts.specs.Growth.{state_of, IsSame};
 ghost use Rattle.selections.specs.Groups.{Grouped};
-ghost use Rattle.derivation.specs.Descent.{UnderAll, HandedDown, Handing, Telling, is_new, Seeking, NextNew};
-ghost use Rattle.derivation.specs.Descent.{SeekingRow, NextRow};
+ghost use Rattle.derivation.specs.Descent.{UnderAll, HandedDown, Handing, Telling, is_new, Seeking, NoneNew, FirstNew};
+ghost use Rattle.derivation.specs.Descent.{SeekingRow, NoRowNew, NextRow};
 ghost use Rattle.derivation.specs.Descent.{Visiting, Visited};
 ghost use Rattle.derivation.specs.Settled.{Starting, Settled};
 
-use facts::insert;
-use fields::MOST_VARIABLES;
-use selections::PLACES;
-use table::{ROOM, first_of, lacks, look, second_of, wide};
+use facts::Growth;
+use fields::Feature;
+use selections::Groups;
+use std::ops::Range;
+use table::{Entry, lacks};
 
 // A cell that says nothing.
 const NOTHING: u8 = 0;
 
 // Whether a place has the feature f, and w is not told yet of i and the child there.
 #[tactic(auto, unfolding(crate::specs::Descent::is_new, fields::specs::Tests::pick, fields::specs::Tests::same))]
-fn is_new(
-    t: &[u8],
-    n: usize,
-    w: u8,
-    f: u16,
-    i: usize,
-    features: &[u16; PLACES],
-    children: &[u8; PLACES],
-    at: usize,
-) -> bool
-    requires { Telling n t.now children.now i at }
-    ensures { result ≡ is_new n t.now features.now children.now w f i at }
+fn is_new(growth: &Growth, groups: &Groups, w: u8, f: Feature, i: usize, at: usize) -> bool
+    requires { Telling growth.now.n growth.now.cells.now groups.now i at }
+    ensures { result ≡ is_new growth.now.n growth.now.cells.now groups.now w f.0 i at }
 {
-    if features[at] != f {
-        return false;
-    }
-    lacks(look(t, n, i, wide(children[at])), w)
+    let child = groups.children[at];
+    child.feature == f && lacks(growth.look(i, child.variable.index()), w)
 }
 
-// The first such place from one on, up to an end.
+// The first such place of these.
 fn seek(
-    t: &[u8],
-    n: usize,
+    growth: &Growth,
+    groups: &Groups,
     w: u8,
-    f: u16,
+    f: Feature,
     i: usize,
-    features: &[u16; PLACES],
-    children: &[u8; PLACES],
-    from: usize,
-    end: usize,
-) -> usize
-    requires { Seeking n t.now children.now i from end }
-    ensures { NextNew n t.now features.now children.now w f i from end result }
+    places: Range<usize>,
+) -> Option<usize>
+    requires { Seeking growth.now.n growth.now.cells.now groups.now i places.start places.end }
+    ensures { MatchOption result
+        (NoneNew growth.now.n growth.now.cells.now groups.now w f.0 i places.start places.end)
+        (FirstNew growth.now.n growth.now.cells.now groups.now w f.0 i places.start places.end) }
 {
-    let mut at = from;
-    while at < end {
-        if is_new(t, n, w, f, i, features, children, at) {
-            return at;
+    for at in places.start..places.end {
+        if is_new(growth, groups, w, f, i, at) {
+            return Some(at);
         }
-        at += 1;
     }
-    at
+    None
 }
 
 // Tells w of i and each child of v at f.
-fn tell_all(
-    t: &mut [u8],
-    n: usize,
-    w: u8,
-    f: u16,
-    i: usize,
-    v: usize,
-    starts: &[usize; MOST_VARIABLES],
-    ends: &[usize; MOST_VARIABLES],
-    features: &[u16; PLACES],
-    children: &[u8; PLACES],
-    queue: &mut [u16; ROOM],
-    tail: usize,
-) -> usize
-    requires { Handing n (state t.old queue.old tail) starts.now ends.now features.now
-        children.now w i v }
-    ensures { Steps n
-        (UnderAll starts.now ends.now features.now children.now w f i v)
-        (state t.old queue.old tail) (state t.new queue.new result) }
+fn tell_all(growth: &mut Growth, groups: &Groups, w: u8, f: Feature, i: usize, v: usize)
+    requires { Handing growth.old.n (state_of growth.old) groups.now w i v }
+    ensures steps { Steps growth.old.n (UnderAll groups.now w f.0 i v) (state_of growth.old) (state_of growth.new) }
+    ensures same { IsSame growth.old growth.new }
 {
-    let end = ends[v];
-    let mut next = tail;
-    let mut at = seek(t, n, w, f, i, features, children, starts[v], end);
-    while at < end {
-        next = insert(t, n, w, i, wide(children[at]), queue, next);
-        at = seek(t, n, w, f, i, features, children, at + 1, end);
+    let group = groups.groups[v];
+    let mut from = group.start;
+    while let Some(at) = seek(growth, groups, w, f, i, from..group.end) {
+        growth.insert(w, i, groups.children[at].variable.index());
+        from = at + 1;
     }
-    next
 }
 
-// The first place from one on, up to an end, whose child w is not told yet of with a child at the same feature, among
-// the places from first to last.
+// The first of these rows whose child w is not told of yet with a child at the same feature, among the places.
 fn seek_row(
-    t: &[u8],
-    n: usize,
+    growth: &Growth,
+    groups: &Groups,
     w: u8,
-    features: &[u16; PLACES],
-    children: &[u8; PLACES],
-    first: usize,
-    last: usize,
-    from: usize,
-    end: usize,
-) -> usize
-    requires { SeekingRow n t.now children.now first last from end }
-    ensures { NextRow n t.now features.now children.now w first last from end
-        result }
+    rows: Range<usize>,
+    places: Range<usize>,
+) -> Option<usize>
+    requires { SeekingRow growth.now.n growth.now.cells.now groups.now places.start places.end rows.start rows.end }
+    ensures { MatchOption result
+        (NoRowNew growth.now.n growth.now.cells.now groups.now w places.start places.end rows.start rows.end)
+        (NextRow growth.now.n growth.now.cells.now groups.now w places.start places.end rows.start rows.end) }
 {
-    let mut at = from;
-    while at < end {
+    for at in rows.start..rows.end {
+        let child = groups.children[at];
         if seek(
-            t,
-            n,
+            growth,
+            groups,
             w,
-            features[at],
-            wide(children[at]),
-            features,
-            children,
-            first,
-            last,
-        ) < last
+            child.feature,
+            child.variable.index(),
+            places.start..places.end,
+        )
+        .is_some()
         {
-            return at;
+            return Some(at);
         }
-        at += 1;
     }
-    at
+    None
 }
 
 // Hands w down from u and v.
-fn hand_down(
-    t: &mut [u8],
-    n: usize,
-    w: u8,
-    u: usize,
-    v: usize,
-    starts: &[usize; MOST_VARIABLES],
-    ends: &[usize; MOST_VARIABLES],
-    features: &[u16; PLACES],
-    children: &[u8; PLACES],
-    queue: &mut [u16; ROOM],
-    tail: usize,
-) -> usize
-    requires { Handing n (state t.old queue.old tail) starts.now ends.now features.now
-        children.now w u v }
-    ensures { Steps n
-        (HandedDown starts.now ends.now features.now children.now w u v)
-        (state t.old queue.old tail) (state t.new queue.new result) }
+fn hand_down(growth: &mut Growth, groups: &Groups, w: u8, u: usize, v: usize)
+    requires { Handing growth.old.n (state_of growth.old) groups.now w u v }
+    ensures steps { Steps growth.old.n (HandedDown groups.now w u v) (state_of growth.old) (state_of growth.new) }
+    ensures same { IsSame growth.old growth.new }
 {
-    let first = starts[v];
-    let last = ends[v];
-    let end = ends[u];
-    let mut next = tail;
-    let mut at = seek_row(t, n, w, features, children, first, last, starts[u], end);
-    while at < end {
-        next = tell_all(
-            t,
-            n,
-            w,
-            features[at],
-            wide(children[at]),
-            v,
-            starts,
-            ends,
-            features,
-            children,
-            queue,
-            next,
-        );
-        at = seek_row(t, n, w, features, children, first, last, at + 1, end);
+    let rows = groups.groups[u];
+    let others = groups.groups[v];
+    let mut from = rows.start;
+    while let Some(at) = seek_row(growth, groups, w, from..rows.end, others.start..others.end) {
+        let child = groups.children[at];
+        tell_all(growth, groups, w, child.feature, child.variable.index(), v);
+        from = at + 1;
     }
-    next
 }
 
 // Hands down what the table says of the two variables of an entry.
-fn visit(
-    t: &mut [u8],
-    n: usize,
-    entry: u16,
-    starts: &[usize; MOST_VARIABLES],
-    ends: &[usize; MOST_VARIABLES],
-    features: &[u16; PLACES],
-    children: &[u8; PLACES],
-    queue: &mut [u16; ROOM],
-    tail: usize,
-) -> usize
-    requires { Visiting n (state t.old queue.old tail) starts.now ends.now features.now
-        children.now entry }
-    ensures { Steps n
-        (Visited n t.old starts.now ends.now features.now
-        children.now entry)
-        (state t.old queue.old tail) (state t.new queue.new result) }
+fn visit(growth: &mut Growth, groups: &Groups, entry: Entry)
+    requires { Visiting growth.old.n (state_of growth.old) groups.now entry }
+    ensures steps { Steps growth.old.n
+        (Visited growth.old.n growth.old.cells.now groups.now entry)
+        (state_of growth.old) (state_of growth.new) }
+    ensures same { IsSame growth.old growth.new }
 {
-    let u = first_of(entry);
-    let v = second_of(entry);
-    let w = look(t, n, u, v);
-    if w == NOTHING {
-        return tail;
+    let u = entry.first.index();
+    let v = entry.second.index();
+    let w = growth.look(u, v);
+    if w != NOTHING {
+        hand_down(growth, groups, w, u, v);
     }
-    hand_down(t, n, w, u, v, starts, ends, features, children, queue, tail)
 }
 
-// Visits the entries of the queue until there are no more: how many there were.
-pub fn run(
-    t: &mut [u8],
-    n: usize,
-    starts: &[usize; MOST_VARIABLES],
-    ends: &[usize; MOST_VARIABLES],
-    features: &[u16; PLACES],
-    children: &[u8; PLACES],
-    queue: &mut [u16; ROOM],
-    tail: usize,
-) -> usize
-    requires { Starting n (state t.old queue.old tail) starts.now ends.now features.now children.now }
-    ensures { Settled n
-        (Grouped starts.now ends.now features.now children.now)
-        (state t.old queue.old tail) (state t.new queue.new result) }
+// Visits the entries of the queue until there are no more.
+pub fn run(growth: &mut Growth, groups: &Groups)
+    requires { Starting growth.old.n (state_of growth.old) groups.now }
+    ensures settled { Settled growth.old.n (Grouped groups.now) (state_of growth.old) (state_of growth.new) }
+    ensures same { IsSame growth.old growth.new }
 {
-    let mut next = tail;
     let mut head = 0;
-    while head < next {
-        next = visit(
-            t,
-            n,
-            queue[head],
-            starts,
-            ends,
-            features,
-            children,
-            queue,
-            next,
-        );
+    while head < growth.queue.len() {
+        let entry = growth.queue[head];
+        visit(growth, groups, entry);
         head += 1;
     }
-    next
 }

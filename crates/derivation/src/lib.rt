@@ -3,6 +3,8 @@
 
 mod derivation;
 mod descent;
+mod pairs;
 
 pub use derivation::derive;
 pub use descent::run;
+pub use pairs::Pair;

@@ -1,4 +1,5 @@
 -- What a check returns and leaves is true of trees.
+use Rattle.std.specs.Prelude.{Ok, Err}
 use Prim.Native.Nat.{ℕ, ◌<◌}
 use lib.ListN.{length}
 use lib.Seq.{take_at}
@@ -6,14 +7,12 @@ use mathlib.Core.Bool.{true, false}
 use mathlib.Core.List.{List}
 use mathlib.Core.Path.{◌≡◌, refl, ap, ◌∙◌}
 use native.Mathlib.Omega.{arith}
-use Rattle.fields.specs.declared.numbers.Cursor.{Cursor}
 use Rattle.fields.specs.declared.numbers.Variable.{Variable}
 use Rattle.fields.specs.declared.refusals.Refusal.{Refusal}
-use Rattle.headers.specs.declared.headers.Header.{Header}
 use Rattle.headers.specs.Headers.{size_for}
 use Rattle.items.specs.Questions.{Query}
 use Rattle.items.specs.Statements.{All}
-use Rattle.sheet.specs.declared.whole.SheetRead.{SheetRead}
+use Rattle.sheet.specs.declared.whole.Accepted.{Accepted}
 use Rattle.sheet.specs.Sheets.{Sheet, read_sheet, sheet_of}
 use Rattle.sheet.proofs.Theorems.{accepted_sheet, accepted_few}
 use Rattle.rules.specs.declared.verdicts.Verdict.{Verdict}
@@ -47,16 +46,16 @@ byte_means C s q byte e answers =
     }
 
 -- demands 2 and 3 of an accepted sheet
-module _ (b : List ℕ) (h : Header) (asked : Cursor) (accepted : read_sheet b ≡ SheetRead.Accepted h asked) where
+module _ (b : List ℕ) (a : Accepted) (accepted : read_sheet b ≡ Ok a) where
   sheet_2 : Demand2 (sheet_of b)
-  sheet_2 = rw (accepted_sheet b h asked accepted) (demand_2 b h asked accepted)
+  sheet_2 = rw (accepted_sheet b a accepted) (demand_2 b a accepted)
 
   sheet_3 : Demand3 (sheet_of b)
-  sheet_3 = rw (accepted_sheet b h asked accepted) (demand_3 b h asked accepted)
+  sheet_3 = rw (accepted_sheet b a accepted) (demand_3 b a accepted)
 
   sheet_asked : fails (sheet_of b) ≡ false
       → All (λ q. Answers (Counts (sheet_of b)) q (reply_to (sheet_of b) q)) (sheet_of b).asked
-  sheet_asked = rw (accepted_sheet b h asked accepted) (demand_3_asked b h asked accepted)
+  sheet_asked = rw (accepted_sheet b a accepted) (demand_3_asked b a accepted)
 
 -- the number of a check that meets its equation
 pub returned_so : {b facts work replies facts' work' replies' : List ℕ} {o : Outcome} {r : ℕ}
@@ -66,7 +65,7 @@ returned_so checked e = record { number = e ∙ ap packed checked.outcome; buffe
 
 module _ {b facts₀ work₀ replies₀ facts' work' replies' : List ℕ} {r : ℕ}
     (returned : Returned b facts₀ work₀ replies₀ facts' work' replies' r) where
-  refused_means : (q : Refusal) → read returned ≡ SheetRead.Refused q → kind_in r ≡ 2
+  refused_means : (q : Refusal) → read returned ≡ Err q → kind_in r ≡ 2
       → Means b facts₀ work₀ replies₀ facts' replies' r
   refused_means q e kind =
       record {
@@ -78,15 +77,15 @@ module _ {b facts₀ work₀ replies₀ facts' work' replies' : List ℕ} {r : �
         replies = λ z. absurd (omega (arith, z, kind));
       }
 
-  module _ (h : Header) (asked : Cursor) (e : read returned ≡ SheetRead.Accepted h asked) where
-    sheet_read : read_sheet b ≡ SheetRead.Accepted h asked
-    sheet_read = (accepted_fits b (length facts₀) (length work₀) (length replies₀) h asked e).accepted
+  module _ (a : Accepted) (e : read returned ≡ Ok a) where
+    sheet_read : read_sheet b ≡ Ok a
+    sheet_read = (accepted_fits b (length facts₀) (length work₀) (length replies₀) a e).accepted
 
     three : Demand3 (sheet_of b)
-    three = sheet_3 b h asked sheet_read
+    three = sheet_3 b a sheet_read
 
     is_accepted : IsAccepted (read returned)
-    is_accepted = (h, (asked, e))
+    is_accepted = (a, e)
 
     not_refused : IsRefused (read returned) → ⊥
     not_refused z = never_refused (rw e at z)
@@ -95,19 +94,19 @@ module _ {b facts₀ work₀ replies₀ facts' work' replies' : List ℕ} {r : �
     facts_told : FactsTold (sheet_of b) facts'
     facts_told =
         record {
-          derives = (sheet_2 b h asked sheet_read).derives;
+          derives = (sheet_2 b a sheet_read).derives;
           bytes = rw (returned.buffers.facts_are, e) (take_at _ _ (size_for (sheet_of b).n) (table_length (sheet_of b).n _));
         }
 
     variables_few : (sheet_of b).n < 65536
-    variables_few = omega (arith, accepted_few b h asked sheet_read)
+    variables_few = omega (arith, accepted_few b a sheet_read)
 
     clash_means : (i j : Variable) → verdict_of (sheet_of b) ≡ Verdict.Clash i j → kind_in r ≡ 1
         → Means b facts₀ work₀ replies₀ facts' replies' r
     unfolding clashes
     clash_means i j is kind =
-        let found = ((sheet_2 b h asked sheet_read).clash i.0 j.0).0 (between (sheet_of b) i j is) in
-        let number : r ≡ packed (Outcome.Clash i j) = rw (accepted_number returned h asked e, is) refl in
+        let found = ((sheet_2 b a sheet_read).clash i.0 j.0).0 (between (sheet_of b) i j is) in
+        let number : r ≡ packed (Outcome.Clash i j) = rw (accepted_number returned a e, is) refl in
         let clashes_so : clashes (sheet_of b).stated (sheet_of b).n ≡ true = rw (between (sheet_of b) i j is) refl in
         let few : i.0 < 65536 = omega (arith, found.row, variables_few) in
         let few' : j.0 < 65536 = omega (arith, found.column, variables_few) in
@@ -136,12 +135,12 @@ module _ {b facts₀ work₀ replies₀ facts' work' replies' : List ℕ} {r : �
           derived = λ z. facts_told;
           least = λ z. absurd (omega (arith, z, kind));
           replies = λ z k q at.
-              byte_means (Counts (sheet_of b)) (sheet_of b) q _ (reply_byte returned h asked e is k q at)
-              (at_question _ (sheet_of b).asked k q (sheet_asked b h asked sheet_read fails_not) at);
+              byte_means (Counts (sheet_of b)) (sheet_of b) q _ (reply_byte returned a e is k q at)
+              (at_question _ (sheet_of b).asked k q (sheet_asked b a sheet_read fails_not) at);
         }
 
   -- demands 1 to 3 of what is returned and left
   pub means : Means b facts₀ work₀ replies₀ facts' replies' r
   means =
-      by_case returned refused_means (λ h asked e is kind. consistent_means h asked e is kind)
-      (λ h asked i j e is kind. clash_means h asked e i j is kind)
+      by_case returned refused_means (λ a e is kind. consistent_means a e is kind)
+      (λ a i j e is kind. clash_means a e i j is kind)

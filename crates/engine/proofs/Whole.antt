@@ -1,14 +1,13 @@
 -- From parts of the lent buffers to the buffers.
+use Rattle.std.specs.Prelude.{Ok, Err}
 use Prim.Native.Nat.{ℕ}
 use lib.ListN.{length, take, drop, replicate, length-replicate, take-append-drop, length-map}
 use lib.Seq.{length-take-le}
 use mathlib.Core.List.{List, ◌++◌, map}
 use mathlib.Core.Path.{◌≡◌, refl, sym, ◌∙◌}
-use Rattle.fields.specs.declared.numbers.Cursor.{Cursor}
 use Rattle.fields.specs.declared.refusals.Refusal.{Refusal}
-use Rattle.headers.specs.declared.headers.Header.{Header}
 use Rattle.headers.specs.Headers.{size_for, table_size, reply_count}
-use Rattle.sheet.specs.declared.whole.SheetRead.{SheetRead}
+use Rattle.sheet.specs.declared.whole.Accepted.{Accepted}
 use Rattle.sheet.specs.Sheets.{sheet_of}
 use Rattle.sheet.proofs.Theorems.{accepted_variables, asked_replies}
 use Rattle.rules.specs.declared.verdicts.Verdict.{Verdict}
@@ -21,14 +20,11 @@ use Rattle.outcomes.specs.declared.outcomes.Outcome.{Outcome}
 use Rattle.outcomes.specs.Judged.{judged}
 use Rattle.promise.specs.Checks.{outcome_of, of_refusal, over, where_consistent, Checked}
 use Rattle.engine.specs.Steps.{Accepting, Filled}
-use Rattle.outcomes.proofs.Judging.{Fits, accepted_fits, refused_soon}
-
--- the buffers are long enough for their parts, and no refusal is told behind the longest sheet
-pub ruleset parts_fit = (accepted_fits, length-take-le, refused_soon)
+use Rattle.outcomes.proofs.Judging.{Fits, accepted_fits}
 
 -- a refusal leaves all as it was
 pub checked_refused : {b facts work replies : List ℕ} {r : Refusal} {o : Outcome}
-    → judged b (length facts) (length work) (length replies) ≡ SheetRead.Refused r → o ≡ of_refusal r
+    → judged b (length facts) (length work) (length replies) ≡ Err r → o ≡ of_refusal r
     → Checked b facts work replies facts work replies o
 unfolding outcome_of
 checked_refused e is =
@@ -49,13 +45,13 @@ unfolding where_consistent
 part_written Verdict.Consistent first buffer part size e is = part_over first buffer part size e is
 part_written (Verdict.Clash i j) first buffer part size e is = rw is (take-append-drop size buffer)
 
-module _ (b facts work replies : List ℕ) {h : Header} {asked : Cursor}
-    (e : judged b (length facts) (length work) (length replies) ≡ SheetRead.Accepted h asked) where
-  fits : Fits b (length facts) (length work) (length replies) h asked
-  fits = accepted_fits b (length facts) (length work) (length replies) h asked e
+module _ (b facts work replies : List ℕ) {a : Accepted}
+    (e : judged b (length facts) (length work) (length replies) ≡ Ok a) where
+  fits : Fits b (length facts) (length work) (length replies) a
+  fits = accepted_fits b (length facts) (length work) (length replies) a e
 
-  pub parts_accepted : (size count : ℕ) → size ≡ table_size h → count ≡ reply_count h
-      → Accepting b h asked (take size facts) (take size work) (take count replies)
+  pub parts_accepted : (size count : ℕ) → size ≡ table_size a.header → count ≡ reply_count a.header
+      → Accepting b a (take size facts) (take size work) (take count replies)
   parts_accepted size count is is' =
       record {
         questions =
@@ -67,21 +63,21 @@ module _ (b facts work replies : List ℕ) {h : Header} {asked : Cursor}
         work_size = length-take-le size work (rw is fits.work_fits) ∙ is;
       }
 
-  sheet_size : size_for (sheet_of b).n ≡ table_size h
-  sheet_size = rw (accepted_variables b h asked fits.accepted) refl
+  sheet_size : size_for (sheet_of b).n ≡ table_size a.header
+  sheet_size = rw (accepted_variables b a fits.accepted) refl
 
-  bytes_size : length (table_bytes (sheet_of b).n (facts_of (sheet_of b).stated (sheet_of b).n)) ≡ table_size h
+  bytes_size : length (table_bytes (sheet_of b).n (facts_of (sheet_of b).stated (sheet_of b).n)) ≡ table_size a.header
   bytes_size = table_length (sheet_of b).n _ ∙ sheet_size
 
-  replies_size : length (map reply_number (replies_of (sheet_of b))) ≡ reply_count h
+  replies_size : length (map reply_number (replies_of (sheet_of b))) ≡ reply_count a.header
   unfolding replies_of
   replies_size =
       length-map (map (reply_to (sheet_of b)) (sheet_of b).asked) reply_number
       ∙ length-map (sheet_of b).asked (reply_to (sheet_of b))
-      ∙ asked_replies b h asked fits.accepted
+      ∙ asked_replies b a fits.accepted
 
-  pub checked_accepted : {facts' work' replies' : List ℕ} {o : Outcome} (size count : ℕ) → size ≡ table_size h
-      → count ≡ reply_count h → Filled (sheet_of b) (take size work) (take count replies) facts' work' replies' o
+  pub checked_accepted : {facts' work' replies' : List ℕ} {o : Outcome} (size count : ℕ) → size ≡ table_size a.header
+      → count ≡ reply_count a.header → Filled (sheet_of b) (take size work) (take count replies) facts' work' replies' o
       → Checked b facts work replies (facts' ++ drop size facts) (work' ++ drop size work)
       (replies' ++ drop count replies) o
   unfolding outcome_of

@@ -1,226 +1,150 @@
 // The check of a sheet: all facts, and the verdict; on a consistent sheet one reply a question.
-ghost use Rattle.std.specs.Prelude.{◌≤◌, length, replicate, map, ◌≡◌};
+ghost use Rattle.std.specs.Prelude.{◌≤◌, [], length, replicate, map, None, ◌≡◌};
+ghost use Rattle.headers.specs.Headers.{size_for};
 ghost use Rattle.sheet.specs.Sheets.{longest, sheet_of};
 ghost use Rattle.rules.specs.Replies.{replies_of, reply_number};
-ghost use Rattle.statements.specs.Lists.{InLists};
-ghost use Rattle.replies.specs.Replying.{Held};
+ghost use Rattle.rules.specs.Verdicts.{verdict_by};
+ghost use Rattle.facts.specs.Growth.{IsSame};
+ghost use Rattle.closure.specs.Making.{Lawful, Made, variables_of};
 ghost use Rattle.outcomes.specs.Outcomes.{packed};
 ghost use Rattle.promise.specs.Checks.{of_refusal, where_consistent, Checked};
 ghost use Rattle.promise.specs.Promise.{Means};
 ghost use Rattle.engine.specs.Steps.{Answering, Accepting, Filled};
 
-use answers::clash_of;
-use closure::make;
-use fields::MOST_VARIABLES;
-use labels::spread_of;
+use closure::{Closed, make};
+use facts::Growth;
 use outcomes::{Outcome, judge, outcome_of};
 use replies::reply_all;
-use rules::{Verdict, verdict_of};
-use selections::PLACES;
-use sheet::{Cursor, Header, Refusal, SheetRead};
-use statements::{PAIRS, SELECTIONS, gather};
-use table::{ROOM, clear, copy};
+use rules::Verdict;
+use selections::Groups;
+use sheet::{Accepted, Refusal};
+use statements::{Lists, gather};
+use table::{Queue, Table};
 
 // The outcome of a refusal.
 fn refused(refusal: Refusal) -> Outcome
     requires { refusal.at ≤ longest }
     ensures { result ≡ of_refusal refusal }
 {
-    let fault = refusal.fault;
-    Outcome::Refused(fault, refusal.at as u16)
+    Outcome::Refused(refusal.fault, refusal.at as u16)
 }
 
-// Where the sheet is consistent, the replies to all questions, tried in the second table, which is cleared then.
-#[tactic(auto, unfolding(promise::specs::Checks::where_consistent))]
-fn answer(
-    verdict: Verdict,
+// Groups the selections of the lists, and fills the first table with all facts that follow from what stands in them.
+fn close(facts: &mut [u8], n: usize, lists: &Lists, groups: &mut Groups, queue: &mut Queue)
+    requires { Lawful n lists.now.pairs.items lists.now.selections.items (length facts.old) }
+    ensures made { Made n lists.now.pairs.items lists.now.selections.items groups.new facts.new }
+    ensures emptied { queue.new.items ≡ [] }
+{
+    let mut growth = Growth {
+        cells: facts,
+        n,
+        queue,
+    };
+    make(
+        &mut growth,
+        groups,
+        lists.pairs.as_slice(),
+        lists.selections.as_slice(),
+    );
+}
+
+// The replies to all questions of consistent statements, tried in a copy of their table, which is cleared then.
+fn reply_in_copy(
     sheet: &[u8],
-    header: Header,
-    asked: Cursor,
-    closed: &[u8],
-    work: &mut [u8],
-    subjects: &[u8],
-    features: &[u16],
-    children: &[u8],
-    starts: &[usize; MOST_VARIABLES],
-    ends: &mut [usize; MOST_VARIABLES],
-    group_features: &mut [u16; PLACES],
-    group_children: &mut [u8; PLACES],
-    counts: &[u8; MOST_VARIABLES],
-    labels: &[u16; MOST_VARIABLES],
-    queue: &mut [u16; ROOM],
+    accepted: Accepted,
+    closed: &Closed,
+    growth: &mut Growth,
+    groups: &mut Groups,
     replies: &mut [u8],
 )
-    requires answering { Answering verdict sheet.now header asked closed.now work.old subjects.now features.now
-        children.now starts.now ends.old group_features.old group_children.old counts.now labels.now queue.old
-        replies.old }
-    requires held { Held header.variables closed.now subjects.now features.now children.now starts.now ends.old
-        group_features.old group_children.old counts.now labels.now (sheet_of sheet.now).stated }
-    ensures cleared { work.new ≡ where_consistent verdict (replicate (length work.old) 0) work.old }
-    ensures replied { replies.new
-        ≡ where_consistent verdict (map reply_number (replies_of (sheet_of sheet.now))) replies.old }
+    requires answering { Answering sheet.now accepted closed.now groups.old (sheet_of sheet.now).stated
+        growth.old.cells.now replies.old }
+    requires sizes { variables_of closed.now ≡ growth.old.n }
+    requires consistent { closed.now.clash ≡ None }
+    requires empty { growth.old.queue.now.items ≡ [] }
+    ensures cleared { growth.new.cells.now ≡ replicate (length growth.old.cells.now) 0 }
+    ensures same { IsSame growth.old growth.new }
+    ensures replied { replies.new ≡ map reply_number (replies_of (sheet_of sheet.now)) }
 {
-    match verdict {
-        Verdict::Clash(_, _) => (),
-        Verdict::Consistent => {
-            let spread = spread_of(header.variables as usize, counts, labels);
-            copy(closed, work);
-            reply_all(
-                sheet,
-                header,
-                asked,
-                closed,
-                work,
-                spread,
-                subjects,
-                features,
-                children,
-                starts,
-                ends,
-                group_features,
-                group_children,
-                counts,
-                labels,
-                queue,
-                replies,
-            );
-            clear(work);
-        }
-    }
+    growth.copy_from(closed.table);
+    reply_all(sheet, accepted, closed, growth, groups, replies);
+    growth.clear();
 }
 
-// The check of an accepted sheet whose statements stand in lists.
-fn check_lists(
+// The same in the second table, where the statements are consistent; nothing where they clash.
+#[tactic(auto, unfolding(promise::specs::Checks::where_consistent))]
+fn answer(
     sheet: &[u8],
-    header: Header,
-    asked: Cursor,
-    cells: &[u8],
-    lefts: &[u8],
-    rights: &[u8],
-    subjects: &[u8],
-    features: &[u16],
-    children: &[u8],
-    counts: &[u8; MOST_VARIABLES],
-    labels: &[u16; MOST_VARIABLES],
-    facts: &mut [u8],
+    accepted: Accepted,
+    closed: &Closed,
+    groups: &mut Groups,
     work: &mut [u8],
+    queue: &mut Queue,
     replies: &mut [u8],
-) -> Outcome
-    requires accepting { Accepting sheet.now header asked facts.old work.old replies.old }
-    requires in_lists { InLists header.variables (sheet_of sheet.now).stated cells.now lefts.now rights.now
-        subjects.now features.now children.now counts.now labels.now }
-    ensures { Filled (sheet_of sheet.now) work.old replies.old facts.new work.new replies.new result }
+)
+    requires answering { Answering sheet.now accepted closed.now groups.old (sheet_of sheet.now).stated work.old replies.old }
+    requires empty { queue.old.items ≡ [] }
+    ensures cleared { work.new
+        ≡ where_consistent (verdict_by closed.now.clash) (replicate (length work.old) 0) work.old }
+    ensures replied { replies.new
+        ≡ where_consistent (verdict_by closed.now.clash) (map reply_number (replies_of (sheet_of sheet.now))) replies.old }
 {
-    let n = header.variables as usize;
-    let mut starts = [0usize; MOST_VARIABLES];
-    let mut ends = [0usize; MOST_VARIABLES];
-    let mut group_features = [0u16; PLACES];
-    let mut group_children = [0u8; PLACES];
-    let mut queue = [0u16; ROOM];
-    make(
-        facts,
-        n,
-        cells,
-        lefts,
-        rights,
-        subjects,
-        features,
-        children,
-        &mut starts,
-        &mut ends,
-        &mut group_features,
-        &mut group_children,
-        &mut queue,
-    );
-    let verdict = verdict_of(clash_of(facts, n, counts, labels));
-    answer(
-        verdict,
-        sheet,
-        header,
-        asked,
-        facts,
-        work,
-        subjects,
-        features,
-        children,
-        &starts,
-        &mut ends,
-        &mut group_features,
-        &mut group_children,
-        counts,
-        labels,
-        &mut queue,
-        replies,
-    );
-    outcome_of(verdict, facts, n)
+    match Verdict::from(closed.clash) {
+        Verdict::Clash(_, _) => (),
+        Verdict::Consistent => {
+            let mut growth = Growth {
+                cells: work,
+                n: closed.table.n,
+                queue,
+            };
+            reply_in_copy(sheet, accepted, closed, &mut growth, groups, replies);
+        }
+    }
 }
 
 // The check of an accepted sheet, on buffers of exactly the size in use.
 fn check_accepted(
     sheet: &[u8],
-    header: Header,
-    asked: Cursor,
+    accepted: Accepted,
     facts: &mut [u8],
     work: &mut [u8],
     replies: &mut [u8],
 ) -> Outcome
-    requires { Accepting sheet.now header asked facts.old work.old replies.old }
+    requires { Accepting sheet.now accepted facts.old work.old replies.old }
     ensures { Filled (sheet_of sheet.now) work.old replies.old facts.new work.new replies.new result }
 {
-    let mut cells = [0u8; PAIRS];
-    let mut lefts = [0u8; PAIRS];
-    let mut rights = [0u8; PAIRS];
-    let mut subjects = [0u8; SELECTIONS];
-    let mut features = [0u16; SELECTIONS];
-    let mut children = [0u8; SELECTIONS];
-    let mut counts = [0u8; MOST_VARIABLES];
-    let mut labels = [0u16; MOST_VARIABLES];
-    let sizes = gather(
+    let n = accepted.header.variables as usize;
+    let lists = gather(sheet, accepted);
+    let mut groups = Groups::empty();
+    let mut queue = Queue::new();
+    close(facts, n, &lists, &mut groups, &mut queue);
+    let table = Table { cells: facts, n };
+    let closed = Closed::new(&table, lists.selections.as_slice(), &lists.labels);
+    answer(
         sheet,
-        header,
-        &mut cells,
-        &mut lefts,
-        &mut rights,
-        &mut subjects,
-        &mut features,
-        &mut children,
-        &mut counts,
-        &mut labels,
-    );
-    let p = sizes.pairs;
-    let s = sizes.selections;
-    check_lists(
-        sheet,
-        header,
-        asked,
-        &cells[..p],
-        &lefts[..p],
-        &rights[..p],
-        &subjects[..s],
-        &features[..s],
-        &children[..s],
-        &counts,
-        &labels,
-        facts,
+        accepted,
+        &closed,
+        &mut groups,
         work,
+        &mut queue,
         replies,
-    )
+    );
+    outcome_of(Verdict::from(closed.clash), &table)
 }
 
 // The check of what is judged first: refused, or accepted.
-#[tactic(auto, using(crate::proofs::Whole::parts_fit))]
+#[tactic(auto, using(outcomes::proofs::Judging::refused_soon))]
 fn check_judged(sheet: &[u8], facts: &mut [u8], work: &mut [u8], replies: &mut [u8]) -> Outcome
     ensures { Checked sheet.now facts.old work.old replies.old facts.new work.new replies.new result }
 {
     match judge(sheet, facts.len(), work.len(), replies.len()) {
-        SheetRead::Refused(refusal) => refused(refusal),
-        SheetRead::Accepted(header, asked) => {
-            let size = header.table_size();
-            let count = header.reply_count();
+        Err(refusal) => refused(refusal),
+        Ok(accepted) => {
+            let size = accepted.header.table_size();
+            let count = accepted.header.reply_count();
             check_accepted(
                 sheet,
-                header,
-                asked,
+                accepted,
                 &mut facts[..size],
                 &mut work[..size],
                 &mut replies[..count],

@@ -9,7 +9,7 @@ pub use exports::check_sheet;
 pub use outcomes::Outcome;
 pub use rules::Reply;
 pub use sheet::{
-    Cursor, Fault, Header, HeaderRead, LARGEST_TABLE, LONGEST_SHEET, Label, MOST_REPLIES, Refusal,
-    SheetRead, Variable, read_header, read_sheet, record_part,
+    Accepted, Cursor, Fault, Header, LARGEST_TABLE, LONGEST_SHEET, Label, MOST_REPLIES, Refusal,
+    Variable, read_header, read_sheet, record_part,
 };
-pub use statements::{StatedLabel, stated_label};
+pub use statements::stated_label;

@@ -6,7 +6,7 @@ use mathlib.Core.Path.{◌≡◌, refl, sym, ap, ◌∙◌}
 use native.Mathlib.Omega.{arith}
 use Rattle.fields.specs.Tests.{less, same}
 use Rattle.rules.specs.Connectives.{◌or◌}
-use Rattle.rules.specs.Facts.{Kind, ordered, compatible}
+use Rattle.rules.specs.declared.kinds.Kind.{Kind}
 use Rattle.rules.specs.Tables.{says}
 use Rattle.rules.proofs.Cells.{same_cell}
 use Rattle.rules.proofs.Logic.{decided, either_first, either_second, either_of, contrary, same_tests}
@@ -33,14 +33,18 @@ Joins kind c w = says kind (bit_or c w) ≡ says kind c or says kind w
 
 pub joined_says : (kind : Kind) (c w : ℕ) → c < 4 → w < 4 → says kind (bit_or c w) ≡ says kind c or says kind w
 unfolding says same less ◌or◌ Joins
-joined_says ordered c w h g =
-    cell_cases (λ x. Joins ordered x w)
-    (cell_cases (Joins ordered 0) refl refl refl refl w g) (cell_cases (Joins ordered 1) refl refl refl refl w g)
-    (cell_cases (Joins ordered 2) refl refl refl refl w g) (cell_cases (Joins ordered 3) refl refl refl refl w g) c h
-joined_says compatible c w h g =
-    cell_cases (λ x. Joins compatible x w)
-    (cell_cases (Joins compatible 0) refl refl refl refl w g) (cell_cases (Joins compatible 1) refl refl refl refl w g)
-    (cell_cases (Joins compatible 2) refl refl refl refl w g) (cell_cases (Joins compatible 3) refl refl refl refl w g)
+joined_says Kind.Ordered c w h g =
+    cell_cases (λ x. Joins Kind.Ordered x w)
+    (cell_cases (Joins Kind.Ordered 0) refl refl refl refl w g)
+    (cell_cases (Joins Kind.Ordered 1) refl refl refl refl w g)
+    (cell_cases (Joins Kind.Ordered 2) refl refl refl refl w g)
+    (cell_cases (Joins Kind.Ordered 3) refl refl refl refl w g) c h
+joined_says Kind.Compatible c w h g =
+    cell_cases (λ x. Joins Kind.Compatible x w)
+    (cell_cases (Joins Kind.Compatible 0) refl refl refl refl w g)
+    (cell_cases (Joins Kind.Compatible 1) refl refl refl refl w g)
+    (cell_cases (Joins Kind.Compatible 2) refl refl refl refl w g)
+    (cell_cases (Joins Kind.Compatible 3) refl refl refl refl w g)
     c h
 
 -- a cell that a join leaves as it is says all that the other says, and one that it changes lacked something
@@ -62,10 +66,10 @@ module _ {C : Type 0} (c w : ℕ) (h : c < 4) (g : w < 4) (next : (kind : Kind) 
 
   pub gains : (bit_or c w ≡ c → ⊥) → C
   gains changed =
-      said_or ordered λ more. said_or compatible λ too.
+      said_or Kind.Ordered λ more. said_or Kind.Compatible λ too.
       absurd (changed (same_cell (bit_or c w) c (joined_small c w h g) h λ kind. same_said kind (of kind more too)))
     where
-      of : (kind : Kind) → (says ordered w ≡ true → says ordered c ≡ true)
-          → (says compatible w ≡ true → says compatible c ≡ true) → says kind w ≡ true → says kind c ≡ true
-      of ordered a b = a
-      of compatible a b = b
+      of : (kind : Kind) → (says Kind.Ordered w ≡ true → says Kind.Ordered c ≡ true)
+          → (says Kind.Compatible w ≡ true → says Kind.Compatible c ≡ true) → says kind w ≡ true → says kind c ≡ true
+      of Kind.Ordered a b = a
+      of Kind.Compatible a b = b

@@ -1,6 +1,6 @@
 -- Laws of `Moves`: nothing moved, one move after another, what stays ready, and one cell that changes.
 use Prim.Native.Nat.{ℕ, ◌*◌, ◌<◌, ◌≤◌}
-use lib.ListN.{get_or}
+use lib.ListN.{length}
 use mathlib.Core.Bool.{false}
 use mathlib.Core.List.{List}
 use mathlib.Core.Logic.{◌⊎◌, inl, inr, ⊎_elim}
@@ -8,11 +8,12 @@ use mathlib.Core.Path.{◌≡◌, refl, ◌∙◌}
 use native.Mathlib.Omega.{arith}
 use Rattle.fields.specs.Tests.{less}
 use Rattle.fields.proofs.Choice.{less_true, less_false}
-use Rattle.rules.specs.Facts.{Kind, ordered, compatible, Holds, Within}
+use Rattle.rules.specs.declared.kinds.Kind.{Kind}
+use Rattle.rules.specs.Facts.{Holds, Within}
 use Rattle.rules.specs.Tables.{facts, Shape, count_facts}
 use Rattle.rules.proofs.Counts.{count_most, count_back, count_bound}
 use Rattle.rules.proofs.Logic.{decided, contrary}
-use Rattle.table.specs.Queue.{Queued, Entry, State, fact_count, Ready}
+use Rattle.table.specs.Queue.{entry_at, Queued, IsEntry, State, fact_count, Ready}
 use Rattle.table.proofs.Entries.{wider, carried}
 use Rattle.facts.specs.Additions.{Moves}
 
@@ -21,7 +22,6 @@ moves_none s shape =
     record {
       shape = shape;
       grows = λ kind i j p. p;
-      size = refl;
       later = omega arith;
       kept = λ k h. refl;
       entries = λ k h g. absurd (omega arith);
@@ -30,17 +30,17 @@ moves_none s shape =
     }
 
 module _ {n : ℕ} {s s' s'' : State} (first : Moves n s s') (second : Moves n s' s'') where
-  kept_both : (k : ℕ) → k < s.tail → get_or s''.queue k 0 ≡ get_or s.queue k 0
+  kept_both : (k : ℕ) → k < length s.queue → entry_at s''.queue k ≡ entry_at s.queue k
   kept_both k h = second.kept k (omega (arith, first.later)) ∙ first.kept k h
 
-  entries_both : (k : ℕ) → s.tail ≤ k → k < s''.tail → Entry n (get_or s''.queue k 0)
+  entries_both : (k : ℕ) → length s.queue ≤ k → k < length s''.queue → IsEntry n (entry_at s''.queue k)
   entries_both k h g =
-      decided (less k s'.tail)
+      decided (less k (length s'.queue))
       (λ p. rw (second.kept k (less_true _ _ p)) (first.entries k h (less_true _ _ p)))
       (λ p. second.entries k (less_false _ _ p) g)
 
   queued_both : (kind : Kind) (i j : ℕ) → Holds (facts n s''.table) kind i j
-      → Holds (facts n s.table) kind i j ⊎ Queued s''.queue s.tail s''.tail i j
+      → Holds (facts n s.table) kind i j ⊎ Queued s''.queue (length s.queue) (length s''.queue) i j
   queued_both kind i j p =
       ⊎_elim
       (λ q. ⊎_elim inl
@@ -54,7 +54,6 @@ module _ {n : ℕ} {s s' s'' : State} (first : Moves n s s') (second : Moves n s
       record {
         shape = second.shape;
         grows = λ kind i j p. second.grows kind i j (first.grows kind i j p);
-        size = second.size ∙ first.size;
         later = omega (arith, first.later, second.later);
         kept = kept_both;
         entries = entries_both;
@@ -67,10 +66,9 @@ ready_after {n} {s} {s'} ready moves =
     record {
       few = ready.few;
       shape = moves.shape;
-      size = moves.size ∙ ready.size;
       room = omega (arith, ready.room, moves.counted);
       entries = λ k h.
-          decided (less k s.tail)
+          decided (less k (length s.queue))
           (λ p. rw (moves.kept k (less_true _ _ p)) (ready.entries k (less_true _ _ p)))
           (λ p. moves.entries k (less_false _ _ p) h);
     }
@@ -86,12 +84,12 @@ module _ (n : ℕ) (t t' : List ℕ) (grows : Within (facts n t) (facts n t')) w
   pub more_facts : (kind : Kind) (i j : ℕ) → i < n → j < n → Holds (facts n t') kind i j → facts n t kind i j ≡ false
       → fact_count n t < fact_count n t'
   unfolding fact_count
-  more_facts ordered i j h g p q =
-      omega (arith, more_of ordered i j h g p q, count_most n (facts n t) (facts n t') grows compatible)
-  more_facts compatible i j h g p q =
-      omega (arith, more_of compatible i j h g p q, count_most n (facts n t) (facts n t') grows ordered)
+  more_facts Kind.Ordered i j h g p q =
+      omega (arith, more_of Kind.Ordered i j h g p q, count_most n (facts n t) (facts n t') grows Kind.Compatible)
+  more_facts Kind.Compatible i j h g p q =
+      omega (arith, more_of Kind.Compatible i j h g p q, count_most n (facts n t) (facts n t') grows Kind.Ordered)
 
 -- there are at most two facts for each pair
 pub fact_bound : (n : ℕ) (t : List ℕ) → fact_count n t ≤ 2 * (n * n)
 unfolding fact_count
-fact_bound n t = omega (arith, count_bound n (facts n t) ordered, count_bound n (facts n t) compatible)
+fact_bound n t = omega (arith, count_bound n (facts n t) Kind.Ordered, count_bound n (facts n t) Kind.Compatible)

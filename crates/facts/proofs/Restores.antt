@@ -1,23 +1,31 @@
 -- The way back to a table, entry by entry.
 use Prim.Native.Nat.{ℕ, ◌+◌, ◌<◌, ◌≤◌}
-use lib.ListN.{get_or}
+use lib.ListN.{length}
 use mathlib.Core.List.{List}
 use mathlib.Core.Logic.{◌⊎◌, inl, inr, ⊎_elim}
 use mathlib.Core.Path.{◌≡◌, sym, ap, ◌∙◌}
 use native.Mathlib.Omega.{arith}
-use Rattle.rules.specs.Facts.{Kind, Holds}
+use Rattle.rules.specs.declared.kinds.Kind.{Kind}
+use Rattle.rules.specs.Facts.{Holds}
 use Rattle.rules.specs.Tables.{says, cell_at, facts}
 use Rattle.rules.proofs.Logic.{same_tests}
 use Rattle.rules.proofs.Tables.{fact_row, fact_column, fact_said, same_facts}
 use Rattle.table.specs.Cells.{with_cell}
-use Rattle.table.specs.Queue.{first_of, second_of, Queued}
+use Rattle.table.specs.declared.queue.Entry.{Entry}
+use Rattle.table.specs.Queue.{entry_at, Queued, State, state}
 use Rattle.table.proofs.Entries.{first_or_later}
 use Rattle.table.proofs.Stores.{store_there, store_elsewhere, there_or, store_shape}
 use Rattle.facts.specs.Restoring.{Restoring}
 
-module _ {n : ℕ} {other t queue : List ℕ} {from tail : ℕ} (restoring : Restoring n other t queue from tail) where
+module _ {n : ℕ} {other : List ℕ} {s : State} {from : ℕ} (restoring : Restoring n other s from) where
+  abbrev t : List ℕ
+  t = s.table
+
+  abbrev queue : List Entry
+  queue = s.queue
+
   -- at the end of the queue
-  pub restored : tail ≤ from → t ≡ other
+  pub restored : length queue ≤ from → t ≡ other
   restored h =
       same_facts n t other restoring.grown restoring.shape λ kind i j a b.
       same_tests _ _
@@ -25,36 +33,36 @@ module _ {n : ℕ} {other t queue : List ℕ} {from tail : ℕ} (restoring : Res
       (restoring.grows kind i j)
 
   -- one entry
-  module _ (h : from < tail) where
-    abbrev entry : ℕ
-    entry = get_or queue from 0
+  module _ (h : from < length queue) where
+    abbrev entry : Entry
+    entry = entry_at queue from
 
-    row : first_of entry < n
+    row : entry.first.0 < n
     row = (restoring.entries from h).first
 
-    column : second_of entry < n
+    column : entry.second.0 < n
     column = (restoring.entries from h).second
 
     module _ (t' : List ℕ)
-        (stored : t' ≡ with_cell n t (first_of entry) (second_of entry) (cell_at n other (first_of entry)
-        (second_of entry))) where
+        (stored : t' ≡ with_cell n t entry.first.0 entry.second.0 (cell_at n other entry.first.0
+        entry.second.0)) where
       -- a fact there is the other table's, and elsewhere as it was
-      there : (kind : Kind) → facts n t' kind (first_of entry) (second_of entry) ≡ facts n other kind (first_of entry)
-          (second_of entry)
+      there : (kind : Kind) → facts n t' kind entry.first.0 entry.second.0 ≡ facts n other kind entry.first.0
+          entry.second.0
       there kind =
           fact_said n t' kind _ _ row column
           ∙ ap (says kind) (rw stored (store_there n t _ _ _ restoring.grown row column))
           ∙ sym (fact_said n other kind _ _ row column)
 
-      elsewhere : (kind : Kind) (i j : ℕ) → i < n → j < n → (i ≡ first_of entry → j ≡ second_of entry → ⊥)
+      elsewhere : (kind : Kind) (i j : ℕ) → i < n → j < n → (i ≡ entry.first.0 → j ≡ entry.second.0 → ⊥)
           → facts n t' kind i j ≡ facts n t kind i j
       elsewhere kind i j a b away =
           fact_said n t' kind i j a b
           ∙ ap (says kind) (rw stored (store_elsewhere n t _ _ _ restoring.grown row column i j b away))
           ∙ sym (fact_said n t kind i j a b)
 
-      by_place : {C : Type 0} (i j : ℕ) → (i ≡ first_of entry → j ≡ second_of entry → C)
-          → ((i ≡ first_of entry → j ≡ second_of entry → ⊥) → C) → C
+      by_place : {C : Type 0} (i j : ℕ) → (i ≡ entry.first.0 → j ≡ entry.second.0 → C)
+          → ((i ≡ entry.first.0 → j ≡ entry.second.0 → ⊥) → C) → C
       by_place = there_or n t _ _ 0 restoring.grown row column
 
       back : (kind : Kind) (i j : ℕ) → Holds (facts n other) kind i j → Holds (facts n t') kind i j
@@ -64,12 +72,12 @@ module _ {n : ℕ} {other t queue : List ℕ} {from tail : ℕ} (restoring : Res
           ∙ restoring.grows kind i j p)
 
       -- an entry behind this one
-      later : (i j : ℕ) → (i ≡ first_of entry → j ≡ second_of entry → ⊥) → Queued queue from tail i j
-          → Queued queue (from + 1) tail i j
+      later : (i j : ℕ) → (i ≡ entry.first.0 → j ≡ entry.second.0 → ⊥) → Queued queue from (length queue) i j
+          → Queued queue (from + 1) (length queue) i j
       later i j away e = first_or_later e (λ p q. absurd (away (sym p) (sym q))) (λ q. q)
 
       still_queued : (kind : Kind) (i j : ℕ) → Holds (facts n t') kind i j
-          → Holds (facts n other) kind i j ⊎ Queued queue (from + 1) tail i j
+          → Holds (facts n other) kind i j ⊎ Queued queue (from + 1) (length queue) i j
       still_queued kind i j p =
           by_place i j (λ e f. inl (rw (e, f) (sym (there kind) ∙ (rw (e, f) at p))))
           (λ away.
@@ -77,7 +85,7 @@ module _ {n : ℕ} {other t queue : List ℕ} {from tail : ℕ} (restoring : Res
           (restoring.queued kind i j
           (sym (elsewhere kind i j (fact_row n _ kind i j p) (fact_column n _ kind i j p) away) ∙ p)))
 
-      pub restore_next : Restoring n other t' queue (from + 1) tail
+      pub restore_next : Restoring n other (state t' queue) (from + 1)
       restore_next =
           record {
             few = restoring.few;
@@ -85,9 +93,7 @@ module _ {n : ℕ} {other t queue : List ℕ} {from tail : ℕ} (restoring : Res
             grown = rw stored (store_shape n t _ _ _ restoring.grown row column
                 (restoring.shape.cells _ _ row column));
             grows = back;
-            size = restoring.size;
             begin = omega arith;
-            room = restoring.room;
             entries = restoring.entries;
             queued = still_queued;
           }

@@ -4,7 +4,7 @@ use mathlib.Core.Path.{◌≡◌, subst}
 use native.Mathlib.Omega.{arith}
 use Rattle.fields.specs.Tests.{less}
 use Rattle.fields.proofs.Choice.{less_true, less_false}
-use Rattle.rules.specs.Facts.{Kind}
+use Rattle.rules.specs.declared.kinds.Kind.{Kind}
 use Rattle.rules.proofs.Logic.{decided}
 use Rattle.facts.specs.Additions.{Facts, Either, one, other, Among}
 

@@ -1,21 +1,23 @@
 -- One cell that is joined with another: what is added to table and queue.
-use Prim.Native.Nat.{ℕ, ◌+◌, ◌*◌, ◌<◌}
+use Prim.Native.Nat.{ℕ, ◌+◌, ◌<◌}
 use lib.Bits.{bit_or}
-use lib.ListN.{length, set, length-set}
+use lib.ListN.{length}
 use mathlib.Core.Bool.{true}
-use mathlib.Core.List.{List}
+use mathlib.Core.List.{List, [], ◌∷◌, ◌++◌}
 use mathlib.Core.Logic.{inl, inr}
 use mathlib.Core.Path.{◌≡◌, sym, ap, subst, ◌∙◌}
 use native.Mathlib.Omega.{arith}
 use Rattle.fields.specs.Tests.{same}
 use Rattle.rules.specs.Connectives.{◌or◌}
-use Rattle.rules.specs.Facts.{Kind, Holds, Within}
+use Rattle.rules.specs.declared.kinds.Kind.{Kind}
+use Rattle.rules.specs.Facts.{Holds, Within}
 use Rattle.rules.specs.Tables.{says, cell_at, facts}
 use Rattle.rules.proofs.Logic.{either_first, either_second, either_of}
 use Rattle.rules.proofs.Tables.{fact_row, fact_column, fact_said}
 use Rattle.table.specs.Cells.{with_cell}
-use Rattle.table.specs.Queue.{Queued, State, state, fact_count, queue_room}
-use Rattle.table.proofs.Entries.{pushed_kept, pushed_entry, pushed_queued}
+use Rattle.table.specs.declared.queue.Entry.{Entry}
+use Rattle.table.specs.Queue.{entry, Queued, State, state, fact_count, queue_room}
+use Rattle.table.proofs.Entries.{pushed_size, pushed_kept, pushed_entry, pushed_queued}
 use Rattle.table.proofs.Stores.{store_there, store_elsewhere, store_shape, there_or}
 use Rattle.facts.specs.Additions.{Said, Added}
 use Rattle.facts.specs.Insertion.{Taking}
@@ -82,25 +84,22 @@ module _ (n : ℕ) (s : State) (w x y : ℕ) (taking : Taking n s w x y) where
         (fact_said n s.table kind x y taking.first taking.second ∙ q))
         changed
 
-    pub has_room : s.tail < queue_room
+    pub has_room : length s.queue < queue_room
     has_room = omega (arith, more, fact_bound n new, taking.ready.room)
 
-    abbrev entry : ℕ
-    entry = x * 256 + y
+    abbrev queue : List Entry
+    queue = s.queue ++ entry x y ∷ []
 
-    abbrev queue : List ℕ
-    queue = set s.queue s.tail entry
+    size : length queue ≡ length s.queue + 1
+    size = pushed_size s.queue (entry x y)
 
-    long : s.tail < length s.queue
-    long = omega (arith, has_room, taking.ready.size)
-
-    queued : (i j : ℕ) → i ≡ x → j ≡ y → Queued queue s.tail (s.tail + 1) i j
+    queued : (i j : ℕ) → i ≡ x → j ≡ y → Queued queue (length s.queue) (length queue) i j
     queued i j e f =
-        at_pair (Queued queue s.tail (s.tail + 1)) e f
-        (pushed_queued n s.queue s.tail x y taking.ready.few taking.first taking.second long)
+        at_pair (Queued queue (length s.queue) (length queue)) e f
+        (rw size (pushed_queued s.queue x y))
 
     abbrev next : State
-    next = state new queue (s.tail + 1)
+    next = state new queue
 
     by_place : {C : Type 0} (kind : Kind) (i j : ℕ) → Holds (facts n new) kind i j
         → (i ≡ x → j ≡ y → says kind old or says kind w ≡ true → C) → (Holds (facts n s.table) kind i j → C) → C
@@ -121,15 +120,13 @@ module _ (n : ℕ) (s : State) (w x y : ℕ) (taking : Taking n s w x y) where
                     store_shape n s.table x y (bit_or old w) taking.ready.shape taking.first taking.second
                     (joined_small old w old_small taking.cell);
                 grows = new_grows;
-                size = length-set s.queue s.tail entry;
-                later = omega arith;
-                kept = pushed_kept n s.queue s.tail x y;
+                later = omega (arith, size);
+                kept = pushed_kept s.queue (entry x y);
                 entries = λ k h g.
-                    let here : k ≡ s.tail = omega arith in
-                    rw here
-                    (pushed_entry n s.queue s.tail x y taking.ready.few taking.first taking.second long);
+                    let here : k ≡ length s.queue = omega (arith, size) in
+                    rw here (pushed_entry s.queue x y taking.first taking.second);
                 queued = λ kind i j p. by_place kind i j p (λ e f q. inr (queued i j e f)) inl;
-                counted = omega (arith, more);
+                counted = omega (arith, more, size);
               };
           given = λ kind i j p.
               at_pair (λ a b. Holds (facts n new) kind a b) p.first p.second
@@ -148,10 +145,10 @@ module _ (n : ℕ) (s : State) (w x y cell : ℕ) (taking : Taking n s w x y) (e
   looked : (bit_or cell w ≡ cell → ⊥) → bit_or (cell_at n s.table x y) w ≡ cell_at n s.table x y → ⊥
   looked changed same = changed (ap (λ z. bit_or z w) e ∙ same ∙ sym e)
 
-  pub take_room : (bit_or cell w ≡ cell → ⊥) → s.tail < queue_room
+  pub take_room : (bit_or cell w ≡ cell → ⊥) → length s.queue < queue_room
   take_room changed = has_room n s w x y taking (looked changed)
 
-  pub take_one : (bit_or cell w ≡ cell → ⊥) → (t queue : List ℕ) (tail : ℕ)
-      → t ≡ with_cell n s.table x y (bit_or cell w) → queue ≡ set s.queue s.tail (x * 256 + y)
-      → tail ≡ s.tail + 1 → Added n (Said w x y) s (state t queue tail)
-  take_one changed t queue tail p q r = rw (p, q, r, e) (cell_taken n s w x y taking (looked changed))
+  pub take_one : (bit_or cell w ≡ cell → ⊥) → (t : List ℕ) (queue : List Entry)
+      → t ≡ with_cell n s.table x y (bit_or cell w) → queue ≡ s.queue ++ entry x y ∷ []
+      → Added n (Said w x y) s (state t queue)
+  take_one changed t queue p q = rw (p, q, e) (cell_taken n s w x y taking (looked changed))

@@ -1,8 +1,9 @@
 -- What is added to a fact table, and how the queue follows.
-use Rattle.std.specs.Prelude.{ℕ, ◌+◌, ◌<◌, ◌≤◌, length, get_or, true, ◌⊎◌, ◌≡◌}
-use Rattle.rules.specs.Facts.{Kind, ordered, compatible, Relation, Holds, Within}
+use Rattle.std.specs.Prelude.{ℕ, ◌+◌, ◌<◌, ◌≤◌, length, true, ◌⊎◌, ◌≡◌}
+use Rattle.rules.specs.declared.kinds.Kind.{Kind}
+use Rattle.rules.specs.Facts.{Relation, Holds, Within}
 use Rattle.rules.specs.Tables.{says, facts, Shape}
-use Rattle.table.specs.Queue.{Queued, Entry, State, fact_count}
+use Rattle.table.specs.Queue.{entry_at, Queued, IsEntry, State, fact_count}
 
 -- a set of facts
 abbrev pub Facts : Type 1
@@ -31,13 +32,12 @@ pub record Among (from upto : ℕ) (P : ℕ → Facts) (kind : Kind) (i j : ℕ)
 pub record Moves (n : ℕ) (s s' : State) : Type 0 where
   pub shape : Shape n s'.table
   pub grows : Within (facts n s.table) (facts n s'.table)
-  pub size : length s'.queue ≡ length s.queue
-  pub later : s.tail ≤ s'.tail
-  pub kept : (k : ℕ) → k < s.tail → get_or s'.queue k 0 ≡ get_or s.queue k 0
-  pub entries : (k : ℕ) → s.tail ≤ k → k < s'.tail → Entry n (get_or s'.queue k 0)
+  pub later : length s.queue ≤ length s'.queue
+  pub kept : (k : ℕ) → k < length s.queue → entry_at s'.queue k ≡ entry_at s.queue k
+  pub entries : (k : ℕ) → length s.queue ≤ k → k < length s'.queue → IsEntry n (entry_at s'.queue k)
   pub queued : (kind : Kind) (i j : ℕ) → Holds (facts n s'.table) kind i j
-      → Holds (facts n s.table) kind i j ⊎ Queued s'.queue s.tail s'.tail i j
-  pub counted : s'.tail + fact_count n s.table ≤ s.tail + fact_count n s'.table
+      → Holds (facts n s.table) kind i j ⊎ Queued s'.queue (length s.queue) (length s'.queue) i j
+  pub counted : length s'.queue + fact_count n s.table ≤ length s.queue + fact_count n s'.table
 
 -- the facts of P are added, and no other
 pub record Added (n : ℕ) (P : Facts) (s s' : State) : Type 0 where
@@ -51,9 +51,9 @@ pub record Framed (n : ℕ) (r : Relation) : Type 0 where
   -- F1.1, F3.1
   pub reflexive : (kind : Kind) (i : ℕ) → i < n → Holds r kind i i
   -- F1.2, F3.2
-  pub through : (kind : Kind) (i j k : ℕ) → Holds r ordered i j → Holds r kind j k → Holds r kind i k
+  pub through : (kind : Kind) (i j k : ℕ) → Holds r Kind.Ordered i j → Holds r kind j k → Holds r kind i k
   -- F3.3
-  pub symmetric : (i j : ℕ) → Holds r compatible i j → Holds r compatible j i
+  pub symmetric : (i j : ℕ) → Holds r Kind.Compatible i j → Holds r Kind.Compatible j i
 
 -- the facts of P are added with what F1 and F3 give from them, and no other
 pub record Steps (n : ℕ) (P : Facts) (s s' : State) : Type 0 where

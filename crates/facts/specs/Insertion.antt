@@ -1,8 +1,9 @@
 -- Insertion of a fact into a table that F1 and F3 leave as it is.
-use Rattle.std.specs.Prelude.{ℕ, ◌<◌, ◌≤◌, get_or, true, List, ◌≡◌}
+use Rattle.std.specs.Prelude.{ℕ, ◌<◌, ◌≤◌, get_or, Bool, true, false, List, ◌≡◌}
 use Rattle.fields.specs.Limits.{most_variables}
 use Rattle.fields.specs.Tests.{pick}
-use Rattle.rules.specs.Facts.{Kind, ordered, compatible}
+use Rattle.rules.specs.Connectives.{◌and◌}
+use Rattle.rules.specs.declared.kinds.Kind.{Kind}
 use Rattle.rules.specs.Tables.{says, cell_at, facts, Shape}
 use Rattle.table.specs.Cells.{is_lacking}
 use Rattle.table.specs.Queue.{State, Ready}
@@ -18,20 +19,20 @@ pub record Taking (n : ℕ) (s : State) (w x y : ℕ) : Type 0 where
 -- both sides of a pair: w at x and y, and ~ at y and x where w says it
 pub data Sides (w x y : ℕ) (kind : Kind) (i j : ℕ) : Type 0 where
   along : Said w x y kind i j → Sides w x y kind i j
-  back : says compatible w ≡ true → Said 2 y x kind i j → Sides w x y kind i j
+  back : says Kind.Compatible w ≡ true → Said 2 y x kind i j → Sides w x y kind i j
 
 -- x takes each cell of a row
 abbrev pub RowTaken : ℕ → List ℕ → ℕ → Facts
 RowTaken n row x = Among 0 n (λ y. Sides (get_or row y 0) x y)
 
--- x takes a row if it is marked, by 1
-pub record Marked (mark n : ℕ) (row : List ℕ) (x : ℕ) (kind : Kind) (i j : ℕ) : Type 0 where
-  pub set : mark ≡ 1
+-- x takes a row if it is marked
+pub record Marked (mark : Bool) (n : ℕ) (row : List ℕ) (x : ℕ) (kind : Kind) (i j : ℕ) : Type 0 where
+  pub set : mark ≡ true
   pub takes : RowTaken n row x kind i j
 
 -- each variable that a column marks takes the row
-abbrev pub RowsTaken : ℕ → List ℕ → List ℕ → Facts
-RowsTaken n column row = Among 0 n (λ x. Marked (get_or column x 0) n row x)
+abbrev pub RowsTaken : ℕ → List Bool → List ℕ → Facts
+RowsTaken n column row = Among 0 n (λ x. Marked (get_or column x false) n row x)
 
 -- as many cells of 0 to 3
 pub record Row (n : ℕ) (row : List ℕ) : Type 0 where
@@ -48,12 +49,12 @@ pub record TakingRows (n : ℕ) (s : State) (row : List ℕ) : Type 0 where
   pub cells : Row n row
 
 -- a variable is marked where it is below u and lacks w at v
-unfoldable pub mark_of : ℕ → List ℕ → ℕ → ℕ → ℕ → ℕ → ℕ
-mark_of n t w u v x = pick (says ordered (cell_at n t x u)) (pick (is_lacking (cell_at n t x v) w) 1 0) 0
+unfoldable pub mark_of : ℕ → List ℕ → ℕ → ℕ → ℕ → ℕ → Bool
+mark_of n t w u v x = says Kind.Ordered (cell_at n t x u) and is_lacking (cell_at n t x v) w
 
 -- the cell that what is below u takes at y, once w holds of u and v: v's own for ≤, and ~ below v for ~ alone
 unfoldable pub cell_taken_at : ℕ → List ℕ → ℕ → ℕ → ℕ → ℕ
-cell_taken_at n t w v y = pick (says ordered w) (cell_at n t v y) (pick (says ordered (cell_at n t y v)) 2 0)
+cell_taken_at n t w v y = pick (says Kind.Ordered w) (cell_at n t v y) (pick (says Kind.Ordered (cell_at n t y v)) 2 0)
 
 -- t is a table of n variables, u and v among them
 pub record Looking (n : ℕ) (t : List ℕ) (u v : ℕ) : Type 0 where
@@ -63,8 +64,8 @@ pub record Looking (n : ℕ) (t : List ℕ) (u v : ℕ) : Type 0 where
   pub second : v < n
 
 -- the marks of all variables, and the whole row that they take
-pub record Columns (n : ℕ) (t : List ℕ) (w u v : ℕ) (column : List ℕ) : Type 0 where
-  pub marks : (x : ℕ) → x < n → get_or column x 0 ≡ mark_of n t w u v x
+pub record Columns (n : ℕ) (t : List ℕ) (w u v : ℕ) (column : List Bool) : Type 0 where
+  pub marks : (x : ℕ) → x < n → get_or column x false ≡ mark_of n t w u v x
 
 pub record Rows (n : ℕ) (t : List ℕ) (w v : ℕ) (row : List ℕ) : Type 0 where
   pub cells : (y : ℕ) → y < n → get_or row y 0 ≡ cell_taken_at n t w v y

@@ -1,51 +1,53 @@
 // The way back: a table that grew is made the one again that it grew from.
-ghost use Rattle.std.specs.Prelude.{◌≡◌};
+ghost use Rattle.std.specs.Prelude.{[], ◌≡◌};
 ghost use Rattle.rules.specs.Tables.{cell_at};
 ghost use Rattle.table.specs.Cells.{Cell, with_cell};
-ghost use Rattle.table.specs.Queue.{first_of, second_of};
+ghost use Rattle.facts.specs.Growth.{state_of, with_table, IsSame};
 ghost use Rattle.facts.specs.Restoring.{Restoring};
 
-use table::{ROOM, copy, first_of, look, second_of, store};
+use crate::growth::Growth;
+use table::{Entry, Table, store};
 
-// Gives the pair of an entry its cell of the other table.
-fn restore_entry(other: &[u8], t: &mut [u8], n: usize, entry: u16)
-    requires { (Cell n other.now (first_of entry) (second_of entry)) ×
-        (Cell n t.old (first_of entry) (second_of entry)) }
-    ensures { t.new ≡ with_cell n t.old (first_of entry) (second_of entry)
-        (cell_at n other.now (first_of entry) (second_of entry)) }
-{
-    let x = first_of(entry);
-    let y = second_of(entry);
-    store(t, n, x, y, look(other, n, x, y));
-}
-
-// Gives each pair of the queue, from one place up to another, its cell of the other table.
-fn restore_queued(
-    other: &[u8],
-    t: &mut [u8],
-    n: usize,
-    queue: &[u16; ROOM],
-    from: usize,
-    tail: usize,
-)
-    requires { Restoring n other.now t.old queue.now from tail }
-    ensures { t.new ≡ other.now }
-{
-    let mut k = from;
-    while k < tail {
-        restore_entry(other, t, n, queue[k]);
-        k += 1;
+impl Growth<'_> {
+    // Gives the pair of an entry its cell of the other table.
+    fn restore_entry(&mut self, other: &Table, entry: Entry)
+        requires there { Cell other.now.n other.now.cells.now entry.first.0 entry.second.0 }
+        requires here { Cell self.old.n self.old.cells.now entry.first.0 entry.second.0 }
+        ensures { self.new ≡ with_table self.old (with_cell self.old.n self.old.cells.now
+            entry.first.0 entry.second.0
+            (cell_at other.now.n other.now.cells.now entry.first.0 entry.second.0)) }
+    {
+        let x = entry.first.index();
+        let y = entry.second.index();
+        store(self.cells, self.n, x, y, other.look(x, y));
     }
-}
 
-// Makes a table the other one again: by the queue where that is short, else as a whole.
-pub fn restore(other: &[u8], t: &mut [u8], n: usize, queue: &[u16; ROOM], from: usize, tail: usize)
-    requires { Restoring n other.now t.old queue.now from tail }
-    ensures { t.new ≡ other.now }
-{
-    if (tail - from) * 32 < n * n {
-        restore_queued(other, t, n, queue, from, tail);
-        return;
+    // Gives each pair of the queue, from one place on, its cell of the other table.
+    fn restore_queued(&mut self, other: &Table, from: usize)
+        requires sizes { other.now.n ≡ self.old.n }
+        requires restoring { Restoring self.old.n other.now.cells.now (state_of self.old) from }
+        ensures table { self.new.cells.now ≡ other.now.cells.now }
+        ensures same { IsSame self.old self.new }
+    {
+        for k in from..self.queue.len() {
+            let entry = self.queue[k];
+            self.restore_entry(other, entry);
+        }
     }
-    copy(other, t);
+
+    // Makes the table the other one again: by the queue where that is short, else as a whole; the queue is empty then.
+    pub fn restore(&mut self, other: &Table, from: usize)
+        requires sizes { other.now.n ≡ self.old.n }
+        requires restoring { Restoring self.old.n other.now.cells.now (state_of self.old) from }
+        ensures table { self.new.cells.now ≡ other.now.cells.now }
+        ensures queue { self.new.queue.now.items ≡ [] }
+        ensures same { IsSame self.old self.new }
+    {
+        if (self.queue.len() - from) * 32 < self.n * self.n {
+            self.restore_queued(other, from);
+        } else {
+            self.copy_from(other);
+        }
+        self.queue.clear();
+    }
 }

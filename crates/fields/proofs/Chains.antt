@@ -1,14 +1,10 @@
 -- A chain of fields, one field off: what holds of every refusal and of what follows each field holds of the chain.
-use Prim.Native.Nat.{ℕ}
 use mathlib.Core.Bool.{Bool, true, false}
 use mathlib.Core.Path.{◌≡◌, refl, subst}
-use Rattle.fields.specs.declared.fields.ByteRead.{ByteRead}
-use Rattle.fields.specs.declared.fields.VariableRead.{VariableRead}
-use Rattle.fields.specs.declared.fields.WordRead.{WordRead}
+use Rattle.std.specs.Prelude.{Result, Ok, Err}
 use Rattle.fields.specs.declared.numbers.Cursor.{Cursor}
-use Rattle.fields.specs.declared.numbers.Variable.{Variable}
 use Rattle.fields.specs.declared.refusals.Refusal.{Refusal}
-use Rattle.fields.specs.Fields.{byte_is, word_is, then_byte, then_word, then_variable}
+use Rattle.fields.specs.Fields.{Read, found, then_value, then_field}
 use Rattle.fields.specs.Tests.{pick}
 
 -- a property of an answer, shut, so that a chain is found in it
@@ -30,21 +26,27 @@ module _ {A : Type 0} {P : A → Type 0} where
 
 -- Q is what is known of the answer, P what is to be shown
 module _ {A : Type 0} {P : A → Type 0} {refused : Refusal → A} where
-  pub after_byte : {Q : ByteRead → Type 0} {r : ByteRead} {next : ℕ → Cursor → A} → Of Q r
-      → ((q : Refusal) → Q (ByteRead.Refused q) → Of P (refused q))
-      → ((v : ℕ) (c : Cursor) → Q (byte_is v c) → Of P (next v c)) → Of P (then_byte r refused next)
-  after_byte {r = (ByteRead.Is f)} h stop go = go f.value f.next h.holds
-  after_byte {r = (ByteRead.Refused q)} h stop go = stop q h.holds
+  pub after_value : {T : Type 0} {Q : Result T Refusal → Type 0} {r : Result T Refusal} {next : T → A} → Of Q r
+      → ((q : Refusal) → Q (Err q) → Of P (refused q))
+      → ((x : T) → Q (Ok x) → Of P (next x)) → Of P (then_value r refused next)
+  after_value {r = (Ok x)} h stop go = go x h.holds
+  after_value {r = (Err q)} h stop go = stop q h.holds
 
-  pub after_word : {Q : WordRead → Type 0} {r : WordRead} {next : ℕ → Cursor → A} → Of Q r
-      → ((q : Refusal) → Q (WordRead.Refused q) → Of P (refused q))
-      → ((v : ℕ) (c : Cursor) → Q (word_is v c) → Of P (next v c)) → Of P (then_word r refused next)
-  after_word {r = (WordRead.Is f)} h stop go = go f.value f.next h.holds
-  after_word {r = (WordRead.Refused q)} h stop go = stop q h.holds
+  pub after_field : {T : Type 0} {Q : Read T → Type 0} {r : Read T} {next : T → Cursor → A} → Of Q r
+      → ((q : Refusal) → Q (Err q) → Of P (refused q))
+      → ((v : T) (c : Cursor) → Q (found v c) → Of P (next v c)) → Of P (then_field r refused next)
+  after_field {r = (Ok f)} h stop go = go f.value f.next h.holds
+  after_field {r = (Err q)} h stop go = stop q h.holds
 
-  pub after_variable : {Q : VariableRead → Type 0} {r : VariableRead} {next : Variable → Cursor → A} → Of Q r
-      → ((q : Refusal) → Q (VariableRead.Refused q) → Of P (refused q))
-      → ((v : Variable) (c : Cursor) → Q (VariableRead.Is (record { value = v; next = c })) → Of P (next v c))
-      → Of P (then_variable r refused next)
-  after_variable {r = (VariableRead.Is f)} h stop go = go f.value f.next h.holds
-  after_variable {r = (VariableRead.Refused q)} h stop go = stop q h.holds
+-- the same of an answer that nothing follows
+pub as_value : {T : Type 0} {P Q : Result T Refusal → Type 0} {r : Result T Refusal} → Of Q r
+    → ((q : Refusal) → Q (Err q) → P (Err q))
+    → ((x : T) → Q (Ok x) → P (Ok x)) → Of P r
+as_value {r = (Ok x)} h stop go = record { holds = go x h.holds }
+as_value {r = (Err q)} h stop go = record { holds = stop q h.holds }
+
+-- what follows a chain follows its last field
+pub then_on : {T U A : Type 0} (r : Read T) (next : T → Cursor → Read U) (refused : Refusal → A) (after : U → Cursor → A)
+    → then_field (then_field r Err next) refused after ≡ then_field r refused λ v c. then_field (next v c) refused after
+then_on (Ok f) next refused after = refl
+then_on (Err q) next refused after = refl

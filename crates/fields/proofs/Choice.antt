@@ -1,6 +1,6 @@
 -- Laws of the tests and of the choice by a test.
 use Prim.Native.Nat.{ℕ, ◌≤◌, ◌<◌}
-use mathlib.Core.Bool.{Bool, true, false, ◌||◌, true≢false}
+use mathlib.Core.Bool.{Bool, true, false, ◌||◌, true≢false, false≢true}
 use mathlib.Core.Path.{◌≡◌, refl}
 use borrow.Author.Tests.{lt-ltb, le-ltb, eq-eqb, ne_eqb, ltb-true, ltb-false, eqb-true, eqb-false}
 use native.Mathlib.Omega.{arith}
@@ -67,3 +67,8 @@ pub pick_most : (b : Bool) (k : ℕ) → pick b k 0 ≤ k
 unfolding pick
 pick_most true k = omega arith
 pick_most false k = omega arith
+
+pub picked : (b : Bool) (k : ℕ) → b ≡ true → pick b k 0 ≡ k
+unfolding pick
+picked true k e = refl
+picked false k e = absurd (false≢true e)

@@ -1,9 +1,7 @@
 -- One field at a cursor: looked for whole, then judged. Each answer has a `then`: it reads on behind the field, or
 -- passes the refusal on.
-use Rattle.std.specs.Prelude.{ℕ, ◌+◌, ◌*◌, Bool, List, get_or}
-use Rattle.fields.specs.declared.fields.ByteRead.{ByteRead}
-use Rattle.fields.specs.declared.fields.VariableRead.{VariableRead}
-use Rattle.fields.specs.declared.fields.WordRead.{WordRead}
+use Rattle.std.specs.Prelude.{ℕ, ◌+◌, ◌*◌, Bool, true, false, List, get_or, Option, Some, None, Result, Ok, Err, ◌≡◌}
+use Rattle.fields.specs.declared.fields.Field.{Field}
 use Rattle.fields.specs.declared.numbers.Cursor.{Cursor}
 use Rattle.fields.specs.declared.numbers.Feature.{Feature}
 use Rattle.fields.specs.declared.numbers.Label.{Label}
@@ -24,53 +22,53 @@ feature f = record { 0 = f }
 abbrev pub label : ℕ → Label
 label a = record { 0 = a }
 
--- the field of a byte, of two bytes, of a variable, and where the next field starts
-abbrev pub byte_is : ℕ → Cursor → ByteRead
-byte_is b next = ByteRead.Is (record { value = b; next = next })
+-- a field or a refusal
+abbrev pub Read : Type 0 → Type 0
+Read T = Result (Field T) Refusal
 
-abbrev pub word_is : ℕ → Cursor → WordRead
-word_is w next = WordRead.Is (record { value = w; next = next })
+-- a value that was found, and where the next field starts
+abbrev pub found : {T : Type 0} → T → Cursor → Read T
+found value next = Ok (record { value = value; next = next })
 
-abbrev pub variable_is : ℕ → Cursor → VariableRead
-variable_is i next = VariableRead.Is (record { value = variable i; next = next })
+-- what follows behind a value, or the refusal passed on
+abbrev pub then_value : {T A : Type 0} → Result T Refusal → (Refusal → A) → (T → A) → A
+then_value (Ok value) refused next = next value
+then_value (Err r) refused next = refused r
 
-abbrev pub then_byte : {A : Type 0} → ByteRead → (Refusal → A) → (ℕ → Cursor → A) → A
-then_byte (ByteRead.Is field) refused next = next field.value field.next
-then_byte (ByteRead.Refused r) refused next = refused r
-
-abbrev pub then_word : {A : Type 0} → WordRead → (Refusal → A) → (ℕ → Cursor → A) → A
-then_word (WordRead.Is field) refused next = next field.value field.next
-then_word (WordRead.Refused r) refused next = refused r
-
-abbrev pub then_variable : {A : Type 0} → VariableRead → (Refusal → A) → (Variable → Cursor → A) → A
-then_variable (VariableRead.Is field) refused next = next field.value field.next
-then_variable (VariableRead.Refused r) refused next = refused r
+abbrev pub then_field : {T A : Type 0} → Read T → (Refusal → A) → (T → Cursor → A) → A
+then_field (Ok field) refused next = next field.value field.next
+then_field (Err r) refused next = refused r
 
 -- a byte that was found is judged: refused where the test says so
-abbrev pub judged : (ℕ → Bool) → Refusal → ByteRead → ByteRead
-judged bad r read = then_byte read ByteRead.Refused λ b next. pick (bad b) (ByteRead.Refused r) (byte_is b next)
+abbrev pub judged : (ℕ → Bool) → Refusal → Read ℕ → Read ℕ
+judged bad r read = then_field read Err λ b next. pick (bad b) (Err r) (found b next)
 
 -- two bytes, the high one first
 unfoldable pub word : ℕ → ℕ → ℕ
 word high low = high * 256 + low
 
-unfoldable pub byte_field : List ℕ → Cursor → ByteRead
-byte_field s c = pick (ends s c.at 1) (ByteRead.Refused (cut s)) (byte_is (get_or s c.at 0) (cursor (c.at + 1)))
+unfoldable pub byte_field : List ℕ → Cursor → Read ℕ
+byte_field s c = pick (ends s c.at 1) (Err (cut s)) (found (get_or s c.at 0) (cursor (c.at + 1)))
 
-unfoldable pub word_field : List ℕ → Cursor → WordRead
+unfoldable pub word_field : List ℕ → Cursor → Read ℕ
 word_field s c =
-    pick (ends s c.at 2) (WordRead.Refused (cut s))
-    (word_is (word (get_or s c.at 0) (get_or s (c.at + 1) 0)) (cursor (c.at + 2)))
+    pick (ends s c.at 2) (Err (cut s))
+    (found (word (get_or s c.at 0) (get_or s (c.at + 1) 0)) (cursor (c.at + 2)))
 
 -- a variable below n
-unfoldable pub variable_field : List ℕ → ℕ → Cursor → VariableRead
+unfoldable pub variable_field : List ℕ → ℕ → Cursor → Read Variable
 variable_field s n c =
-    then_byte (byte_field s c) VariableRead.Refused λ i next.
-    pick (bad_variable n i) (VariableRead.Refused (variable_refusal c)) (variable_is i next)
+    then_field (byte_field s c) Err λ i next.
+    pick (bad_variable n i) (Err (variable_refusal c)) (found (variable i) next)
 
--- a field that is there only where its bit stands: 0 where it is not
-unfoldable pub word_if : Bool → List ℕ → Cursor → WordRead
-word_if stands s c = pick stands (word_field s c) (word_is 0 c)
+-- a field that is there only where its bit stands
+abbrev pub present : {T : Type 0} → Read T → Read (Option T)
+present read = then_field read Err λ value next. found (Some value) next
 
-unfoldable pub variable_if : Bool → List ℕ → ℕ → Cursor → VariableRead
-variable_if stands s n c = pick stands (variable_field s n c) (variable_is 0 c)
+unfoldable pub field_if : {T : Type 0} → Bool → Read T → Cursor → Read (Option T)
+field_if stands read c = pick stands (present read) (found None c)
+
+-- the same, of an answer that is known only where its bit stands
+abbrev pub ReadIf : {T : Type 0} → (Read T → Type 0) → Bool → Cursor → Read (Option T) → Type 0
+ReadIf Reads true c answer = (read : Read _) × Reads read × (answer ≡ present read)
+ReadIf Reads false c answer = answer ≡ found None c

@@ -1,50 +1,21 @@
 // One field at a cursor: looked for whole, then judged, before the next.
 ghost use Rattle.std.specs.Prelude.{◌≡◌};
-ghost use Rattle.fields.specs.Fields.{word, byte_field, word_field, variable_field, word_if, variable_if};
+ghost use Rattle.fields.specs.Fields.{word, byte_field, word_field, variable_field, ReadIf};
 ghost use Rattle.fields.specs.Refusals.{cut};
 ghost use Rattle.fields.specs.Tests.{has};
 
 use crate::numbers::{Cursor, Variable};
 use crate::refusals::{Fault, Refusal};
 
-// A byte that was found, and where the next field starts.
-#[derive(Clone, Copy)]
-pub struct ByteField {
-    pub value: u8,
+// A value that was found, and where the next field starts.
+#[derive(Clone, Copy, Debug, PartialEq, Eq)]
+pub struct Field<T> {
+    pub value: T,
     pub next: Cursor,
 }
 
-#[derive(Clone, Copy)]
-pub enum ByteRead {
-    Is(ByteField),
-    Refused(Refusal),
-}
-
-// Two bytes that were found.
-#[derive(Clone, Copy)]
-pub struct WordField {
-    pub value: u16,
-    pub next: Cursor,
-}
-
-#[derive(Clone, Copy)]
-pub enum WordRead {
-    Is(WordField),
-    Refused(Refusal),
-}
-
-// A variable that was found.
-#[derive(Clone, Copy)]
-pub struct VariableField {
-    pub value: Variable,
-    pub next: Cursor,
-}
-
-#[derive(Clone, Copy)]
-pub enum VariableRead {
-    Is(VariableField),
-    Refused(Refusal),
-}
+// A field, or why the sheet is refused.
+pub type Read<T> = Result<Field<T>, Refusal>;
 
 // Whether the bit of this value stands in a map.
 #[tactic(auto, unfolding(crate::specs::Tests::has, crate::specs::Tests::same))]
@@ -77,88 +48,65 @@ pub fn cut_off(sheet: &[u8]) -> Refusal
 
 // A field of one byte.
 #[tactic(auto, unfolding(crate::specs::Fields::byte_field, crate::specs::Refusals::ends, crate::specs::Tests::less, crate::specs::Tests::pick))]
-pub fn read_byte(sheet: &[u8], from: Cursor) -> ByteRead
+pub fn read_byte(sheet: &[u8], from: Cursor) -> Read<u8>
     ensures { result ≡ byte_field sheet.now from }
 {
     let at = from.at;
     if sheet.len() <= at {
-        return ByteRead::Refused(cut_off(sheet));
+        return Err(cut_off(sheet));
     }
-    ByteRead::Is(ByteField {
+    Ok(Field {
         value: sheet[at],
         next: Cursor { at: at + 1 },
     })
 }
 
 // A field of two bytes.
-#[tactic(auto, unfolding(crate::specs::Fields::word_field, crate::specs::Refusals::ends, crate::specs::Tests::less, crate::specs::Tests::pick))]
-pub fn read_word(sheet: &[u8], from: Cursor) -> WordRead
+#[tactic(auto, unfolding(crate::specs::Fields::word_field, crate::specs::Fields::byte_field, crate::specs::Refusals::ends, crate::specs::Tests::less, crate::specs::Tests::pick))]
+pub fn read_word(sheet: &[u8], from: Cursor) -> Read<u16>
     ensures { result ≡ word_field sheet.now from }
 {
-    let at = from.at;
-    if sheet.len() <= at {
-        return WordRead::Refused(cut_off(sheet));
-    }
-    let low = at + 1;
-    if sheet.len() <= low {
-        return WordRead::Refused(cut_off(sheet));
-    }
-    WordRead::Is(WordField {
-        value: word_of(sheet[at], sheet[low]),
-        next: Cursor { at: at + 2 },
+    let high = read_byte(sheet, from)?;
+    let low = read_byte(sheet, high.next)?;
+    Ok(Field {
+        value: word_of(high.value, low.value),
+        next: low.next,
     })
 }
 
 // A variable below the count n.
 #[tactic(auto, unfolding(crate::specs::Fields::variable_field, crate::specs::Refusals::bad_variable, crate::specs::Tests::less, crate::specs::Tests::pick))]
-pub fn read_variable(sheet: &[u8], n: u8, from: Cursor) -> VariableRead
+pub fn read_variable(sheet: &[u8], n: u8, from: Cursor) -> Read<Variable>
     ensures { result ≡ variable_field sheet.now n from }
 {
-    match read_byte(sheet, from) {
-        ByteRead::Refused(refusal) => VariableRead::Refused(refusal),
-        ByteRead::Is(field) => {
-            if field.value < n {
-                let next = field.next;
-                VariableRead::Is(VariableField {
-                    value: Variable(field.value),
-                    next: next,
-                })
-            } else {
-                VariableRead::Refused(Refusal {
-                    fault: Fault::VariableRange,
-                    at: from.at,
-                })
-            }
-        }
-    }
-}
-
-// A two-byte field that is there only where its bit stands; 0 where it is not.
-#[tactic(auto, unfolding(crate::specs::Fields::word_if, crate::specs::Tests::pick))]
-pub fn read_word_if(stands: bool, sheet: &[u8], from: Cursor) -> WordRead
-    ensures { result ≡ word_if stands sheet.now from }
-{
-    if stands {
-        read_word(sheet, from)
+    let field = read_byte(sheet, from)?;
+    if field.value < n {
+        Ok(Field {
+            value: Variable(field.value),
+            next: field.next,
+        })
     } else {
-        WordRead::Is(WordField {
-            value: 0,
-            next: from,
+        Err(Refusal {
+            fault: Fault::VariableRange,
+            at: from.at,
         })
     }
 }
 
-// A variable field that is there only where its bit stands; 0 where it is not.
-#[tactic(auto, unfolding(crate::specs::Fields::variable_if, crate::specs::Tests::pick))]
-pub fn read_variable_if(stands: bool, sheet: &[u8], n: u8, from: Cursor) -> VariableRead
-    ensures { result ≡ variable_if stands sheet.now n from }
+// A field that is there only where its bit stands.
+pub fn read_if<T, F: FnOnce() -> Read<T>>(stands: bool, from: Cursor, read: F) -> Read<Option<T>>
+    requires { F.pre read }
+    ensures { ReadIf (F.post read) stands from result }
 {
-    if stands {
-        read_variable(sheet, n, from)
-    } else {
-        VariableRead::Is(VariableField {
-            value: Variable(0),
+    if !stands {
+        return Ok(Field {
+            value: None,
             next: from,
-        })
+        });
     }
+    let field = read()?;
+    Ok(Field {
+        value: Some(field.value),
+        next: field.next,
+    })
 }

@@ -6,10 +6,7 @@ mod limits;
 mod numbers;
 mod refusals;
 
-pub use fields::{
-    ByteField, ByteRead, VariableField, VariableRead, WordField, WordRead, has_bit, read_byte,
-    read_variable, read_variable_if, read_word, read_word_if,
-};
+pub use fields::{Field, Read, has_bit, read_byte, read_if, read_variable, read_word};
 pub use limits::{MOST_ITEMS, MOST_VARIABLES};
 pub use numbers::{Cursor, Feature, Label, Variable};
 pub use refusals::{Fault, Place, Refusal};

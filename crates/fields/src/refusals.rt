@@ -2,7 +2,7 @@
 ghost use Rattle.std.specs.Prelude.{◌≡◌};
 ghost use Rattle.fields.specs.Refusals.{number_of};
 
-#[derive(Clone, Copy)]
+#[derive(Clone, Copy, Debug, PartialEq, Eq)]
 pub enum Fault {
     // 1: a field that is due is missing or incomplete; told at the sheet's length
     Cut,
@@ -25,25 +25,25 @@ pub enum Fault {
 }
 
 // What is told of a refused sheet: the fault and its offset.
-#[derive(Clone, Copy)]
+#[derive(Clone, Copy, Debug, PartialEq, Eq)]
 pub struct Refusal {
     pub fault: Fault,
     pub at: usize,
 }
 
 // Where an item stands: it decides which maps are lawful.
-#[derive(Clone, Copy)]
+#[derive(Clone, Copy, Debug, PartialEq, Eq)]
 pub enum Place {
     Record,
     Question,
 }
 
-impl Fault {
+impl From<Fault> for u8 {
     // The refusal's number.
-    pub fn number(self) -> u8
-        ensures { result ≡ number_of self }
-    {
-        match self {
+    ghost from_gives = { λ fault number. number ≡ number_of fault };
+
+    fn from(fault: Fault) -> u8 {
+        match fault {
             Fault::Cut => 1,
             Fault::HeaderMap => 2,
             Fault::VariableCount => 3,

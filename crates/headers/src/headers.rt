@@ -4,8 +4,8 @@ ghost use Rattle.fields.specs.Refusals.{bad_header_map, bad_variable_count};
 ghost use Rattle.headers.specs.Headers.{header_map, variable_count, count_field, count_if, header_of, table_size, reply_count};
 
 use fields::{
-    ByteRead, Cursor, Fault, MOST_ITEMS, MOST_VARIABLES, Refusal, WordField, WordRead, has_bit,
-    read_byte, read_word,
+    Cursor, Fault, MOST_ITEMS, MOST_VARIABLES, Read, Refusal, has_bit, read_byte, read_if,
+    read_word,
 };
 
 // How many bytes the largest fact table takes.
@@ -15,19 +15,13 @@ pub const LARGEST_TABLE: usize = MOST_VARIABLES * MOST_VARIABLES;
 pub const MOST_REPLIES: usize = MOST_ITEMS;
 
 // The fields of a header, and where the first record starts.
-#[derive(Clone, Copy)]
+#[derive(Clone, Copy, Debug, PartialEq, Eq)]
 pub struct Header {
     pub map: u8,
     pub variables: u8,
     pub records: u16,
     pub questions: u16,
     pub first: Cursor,
-}
-
-#[derive(Clone, Copy)]
-pub enum HeaderRead {
-    Is(Header),
-    Refused(Refusal),
 }
 
 impl Header {
@@ -74,12 +68,23 @@ impl Header {
     }
 }
 
+// The bits of a header's map, each for a count.
+const VARIABLES: u8 = 1;
+
+const RECORDS: u8 = 2;
+
+const QUESTIONS: u8 = 4;
+
 // Row 2 of the refusals.
 #[tactic(auto, unfolding(fields::specs::Refusals::bad_header_map, fields::specs::Tests::less))]
 fn is_bad_header_map(map: u8) -> bool
     ensures { result ≡ bad_header_map map }
 {
-    if has_bit(1, map) { 7 < map } else { true }
+    if has_bit(VARIABLES, map) {
+        7 < map
+    } else {
+        true
+    }
 }
 
 // Row 3 of the refusals.
@@ -95,106 +100,70 @@ fn is_bad_variable_count(n: u8) -> bool
 
 // The header's map, the first byte.
 #[tactic(auto, unfolding(crate::specs::Headers::header_map, fields::specs::Tests::pick))]
-fn read_header_map(sheet: &[u8]) -> ByteRead
+fn read_header_map(sheet: &[u8]) -> Read<u8>
     ensures { result ≡ header_map sheet.now }
 {
-    match read_byte(sheet, Cursor { at: 0 }) {
-        ByteRead::Refused(refusal) => ByteRead::Refused(refusal),
-        ByteRead::Is(field) => {
-            if is_bad_header_map(field.value) {
-                ByteRead::Refused(Refusal {
-                    fault: Fault::HeaderMap,
-                    at: 0,
-                })
-            } else {
-                ByteRead::Is(field)
-            }
-        }
+    let map = read_byte(sheet, Cursor { at: 0 })?;
+    if is_bad_header_map(map.value) {
+        return Err(Refusal {
+            fault: Fault::HeaderMap,
+            at: 0,
+        });
     }
+    Ok(map)
 }
 
 // The variable count, the second byte.
 #[tactic(auto, unfolding(crate::specs::Headers::variable_count, fields::specs::Tests::pick))]
-fn read_variable_count(sheet: &[u8], from: Cursor) -> ByteRead
+fn read_variable_count(sheet: &[u8], from: Cursor) -> Read<u8>
     ensures { result ≡ variable_count sheet.now from }
 {
-    match read_byte(sheet, from) {
-        ByteRead::Refused(refusal) => ByteRead::Refused(refusal),
-        ByteRead::Is(field) => {
-            if is_bad_variable_count(field.value) {
-                ByteRead::Refused(Refusal {
-                    fault: Fault::VariableCount,
-                    at: 1,
-                })
-            } else {
-                ByteRead::Is(field)
-            }
-        }
+    let count = read_byte(sheet, from)?;
+    if is_bad_variable_count(count.value) {
+        return Err(Refusal {
+            fault: Fault::VariableCount,
+            at: 1,
+        });
     }
+    Ok(count)
 }
 
 // A record or question count.
 #[tactic(auto, unfolding(crate::specs::Headers::count_field, fields::specs::Refusals::bad_count, fields::specs::Tests::less, fields::specs::Tests::pick))]
-fn read_count(sheet: &[u8], from: Cursor) -> WordRead
+fn read_count(sheet: &[u8], from: Cursor) -> Read<u16>
     ensures { result ≡ count_field sheet.now from }
 {
-    match read_word(sheet, from) {
-        WordRead::Refused(refusal) => WordRead::Refused(refusal),
-        WordRead::Is(field) => {
-            if MOST_ITEMS < field.value as usize {
-                WordRead::Refused(Refusal {
-                    fault: Fault::Count,
-                    at: from.at,
-                })
-            } else {
-                WordRead::Is(field)
-            }
-        }
+    let count = read_word(sheet, from)?;
+    if MOST_ITEMS < count.value as usize {
+        return Err(Refusal {
+            fault: Fault::Count,
+            at: from.at,
+        });
     }
+    Ok(count)
 }
 
-// It is 0 where its bit is missing.
-#[tactic(auto, unfolding(crate::specs::Headers::count_if, fields::specs::Tests::pick))]
-fn read_count_if(stands: bool, sheet: &[u8], from: Cursor) -> WordRead
+// It is there only where its bit stands.
+fn read_count_if(stands: bool, sheet: &[u8], from: Cursor) -> Read<Option<u16>>
     ensures { result ≡ count_if stands sheet.now from }
 {
-    if stands {
-        read_count(sheet, from)
-    } else {
-        WordRead::Is(WordField {
-            value: 0,
-            next: from,
-        })
-    }
+    read_if(stands, from, || read_count(sheet, from))
 }
 
 // The header alone: what follows it is not judged.
 #[tactic(auto, unfolding(crate::specs::Headers::header_of))]
-pub fn read_header(sheet: &[u8]) -> HeaderRead
+pub fn read_header(sheet: &[u8]) -> Result<Header, Refusal>
     ensures { result ≡ header_of sheet.now }
 {
-    let map = match read_header_map(sheet) {
-        ByteRead::Is(field) => field,
-        ByteRead::Refused(refusal) => return HeaderRead::Refused(refusal),
-    };
-    let variables = match read_variable_count(sheet, map.next) {
-        ByteRead::Is(field) => field,
-        ByteRead::Refused(refusal) => return HeaderRead::Refused(refusal),
-    };
-    let records = match read_count_if(has_bit(2, map.value), sheet, variables.next) {
-        WordRead::Is(field) => field,
-        WordRead::Refused(refusal) => return HeaderRead::Refused(refusal),
-    };
-    let questions = match read_count_if(has_bit(4, map.value), sheet, records.next) {
-        WordRead::Is(field) => field,
-        WordRead::Refused(refusal) => return HeaderRead::Refused(refusal),
-    };
-    let first = questions.next;
-    HeaderRead::Is(Header {
+    let map = read_header_map(sheet)?;
+    let variables = read_variable_count(sheet, map.next)?;
+    let records = read_count_if(has_bit(RECORDS, map.value), sheet, variables.next)?;
+    let questions = read_count_if(has_bit(QUESTIONS, map.value), sheet, records.next)?;
+    Ok(Header {
         map: map.value,
         variables: variables.value,
-        records: records.value,
-        questions: questions.value,
-        first: first,
+        records: records.value.unwrap_or(0),
+        questions: questions.value.unwrap_or(0),
+        first: questions.next,
     })
 }

@@ -3,4 +3,4 @@
 
 mod headers;
 
-pub use headers::{Header, HeaderRead, LARGEST_TABLE, MOST_REPLIES, read_header};
+pub use headers::{Header, LARGEST_TABLE, MOST_REPLIES, read_header};

@@ -1,22 +1,22 @@
 -- What an item that was read is: its map lawful, its end where its map says, its variables below n.
+use Rattle.std.specs.Prelude.{is_some, Ok, Err}
 use Prim.Native.Nat.{ℕ, ◌+◌, ◌≤◌, ◌<◌}
-use mathlib.Core.Bool.{true, false}
+use mathlib.Core.Bool.{false}
 use mathlib.Core.List.{List}
 use mathlib.Core.Path.{◌≡◌}
 use borrow.Author.Tests.{not-false}
-use lib.ListN.{length}
+use lib.ListN.{length, get_or}
 use native.Mathlib.Omega.{arith}
 use Rattle.fields.specs.declared.numbers.Cursor.{Cursor}
 use Rattle.fields.specs.declared.refusals.Place.{Place}
 use Rattle.fields.specs.Refusals.{bad_item_map, several_bits}
+use Rattle.fields.specs.Fields.{Read}
 use Rattle.fields.specs.Tests.{less, same, pick, has}
-use Rattle.fields.proofs.Chains.{Of, after_byte, after_variable}
+use Rattle.fields.proofs.Chains.{Of, after_field, as_value}
 use Rattle.fields.proofs.Choice.{same_true, or_right, or_cases, pick_most}
-use Rattle.fields.proofs.Extents.{judged_spans, variable_spans}
+use Rattle.fields.proofs.Extents.{Held, Below, judged_spans, variable_spans}
 use Rattle.items.specs.declared.items.Item.{Item}
-use Rattle.items.specs.declared.items.ItemRead.{ItemRead}
 use Rattle.items.specs.Items.{map_field, item_at, fields_width, width, most}
-use Rattle.items.proofs.Chains.{as_item_lem}
 use Rattle.items.proofs.Filled.{fields_span}
 
 -- a lawful question map is one bit
@@ -33,14 +33,7 @@ one_bit map e p₁ p₂ p₄ p₈ =
 width_record : (map : ℕ) → width map ≤ 9
 unfolding width fields_width
 width_record map =
-    omega (
-      arith,
-      pick_most (has 1 map) 1,
-      pick_most (has 2 map) 1,
-      pick_most (has 4 map) 2,
-      pick_most (has 4 map) 1,
-      pick_most (has 8 map) 2,
-    )
+    omega (arith, pick_most (has 1 map) 1, pick_most (has 2 map) 1, pick_most (has 4 map) 3, pick_most (has 8 map) 2)
 
 width_question : (map : ℕ) → bad_item_map Place.Question map ≡ false → width map ≤ 5
 unfolding width fields_width pick has same
@@ -51,19 +44,25 @@ pub width_most : (place : Place) (map : ℕ) → bad_item_map place map ≡ fals
 width_most Place.Record map e = width_record map
 width_most Place.Question map e = width_question map e
 
--- an item that was read from c to next
+-- an item that was read from c to next: by its map, which stands at c, and each field stands where its bit does
 pub record Reads (place : Place) (s : List ℕ) (n : ℕ) (c : Cursor) (x : Item) (next : Cursor) : Type 0 where
-  pub lawful : bad_item_map place x.map ≡ false
-  pub reaches : next.at ≡ c.at + width x.map
+  pub map : ℕ
+  pub map_is : get_or s c.at 0 ≡ map
+  pub lawful : bad_item_map place map ≡ false
+  pub has_target : is_some x.target ≡ has 1 map
+  pub has_partner : is_some x.partner ≡ has 2 map
+  pub has_edge : is_some x.edge ≡ has 4 map
+  pub has_label : is_some x.label ≡ has 8 map
+  pub reaches : next.at ≡ c.at + width map
   pub inside : next.at ≤ length s
   pub subject : x.subject.0 < n
-  pub target : has 1 x.map ≡ true → x.target.0 < n
-  pub partner : has 2 x.map ≡ true → x.partner.0 < n
-  pub child : has 4 x.map ≡ true → x.child.0 < n
+  pub target : Held (Below n) x.target
+  pub partner : Held (Below n) x.partner
+  pub child : Held (λ out. Below n out.child) x.edge
 
-abbrev pub ItemSpans : Place → List ℕ → ℕ → Cursor → ItemRead → Type 0
-ItemSpans place s n c (ItemRead.Is x next) = Reads place s n c x next
-ItemSpans place s n c (ItemRead.Refused r) = r.at ≤ c.at + most place
+abbrev pub ItemSpans : Place → List ℕ → ℕ → Cursor → Read Item → Type 0
+ItemSpans place s n c (Ok f) = Reads place s n c f.value f.next
+ItemSpans place s n c (Err r) = r.at ≤ c.at + most place
 
 pub most_least : (place : Place) → 5 ≤ most place
 most_least Place.Record = omega arith
@@ -72,16 +71,22 @@ most_least Place.Question = omega arith
 pub item_spans : (place : Place) (s : List ℕ) (n : ℕ) (c : Cursor) → Of (ItemSpans place s n c) (item_at place s n c)
 unfolding item_at map_field width
 item_spans place s n c =
-    after_byte (judged_spans s c (bad_item_map place) _ (omega arith))
+    after_field (judged_spans s c (bad_item_map place) _ (omega arith))
     (λ q h. record { holds = omega (arith, most_least place) }) λ map c₁ m.
-    after_variable (variable_spans s c₁ n) (λ q h. record { holds = omega (arith, most_least place) }) λ i c₂ v.
-    as_item_lem (fields_span s n map i c₂) (λ q h. omega (arith, width_most place map m.1)) λ x next f.
+    after_field (variable_spans s c₁ n) (λ q h. record { holds = omega (arith, most_least place) }) λ i c₂ v.
+    as_value (fields_span s n map i c₂) (λ q h. omega (arith, width_most place map m.1)) λ x f.
     record {
-      lawful = rw f.map_is m.1;
-      reaches = rw f.map_is (omega arith);
+      map = map;
+      map_is = m.3;
+      lawful = m.1;
+      has_target = f.has_target;
+      has_partner = f.has_partner;
+      has_edge = f.has_edge;
+      has_label = f.has_label;
+      reaches = omega arith;
       inside = f.span.inside (v.0.inside m.2);
       subject = rw f.subject_is v.1;
-      target = rw f.map_is f.target;
-      partner = rw f.map_is f.partner;
-      child = rw f.map_is f.child;
+      target = f.target;
+      partner = f.partner;
+      child = f.child;
     }

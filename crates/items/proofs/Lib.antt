@@ -1,5 +1,4 @@
 -- Laws that belong to no one function, from fields behind a subject up to runs of items.
-pub mod Chains
 pub mod Filled
 pub mod Lawful
 pub mod Runs

@@ -9,7 +9,7 @@ use Rattle.items.specs.Statements.{statement_of, Names, All}
 pub data Query : Type 0 where
   holds : Statement → Query
 
--- what a question asks, as it is read: the statement of its one bit
+-- what a question asks, as it is read: the statement of its one field
 unfoldable pub question_of : Item → Question
 question_of x = Question.Holds (statement_of x)
 

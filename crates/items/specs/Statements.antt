@@ -1,6 +1,6 @@
 -- What records state and questions ask.
-use Rattle.std.specs.Prelude.{ℕ, ◌<◌, Bool, List, [], ◌∷◌, ◌++◌}
-use Rattle.fields.specs.Tests.{pick, has}
+use Rattle.std.specs.Prelude.{ℕ, ◌<◌, List, [], ◌∷◌, ◌++◌, Option, option_map, option_to_list, unwrap_or}
+use Rattle.fields.specs.Fields.{label}
 use Rattle.items.specs.declared.items.Item.{Item}
 use Rattle.items.specs.declared.items.Statement.{Statement}
 
@@ -11,25 +11,33 @@ bit_of (Statement.Compatibility i j) = 2
 bit_of (Statement.Selection i f j) = 4
 bit_of (Statement.Labelling i a) = 8
 
--- the statement that an item's bit makes of its fields, where it stands
-abbrev pub stated_if : Bool → Statement → List Statement
-stated_if stands x = pick stands (x ∷ []) []
+-- the statement that each field makes with the subject, where it is there
+abbrev pub ordering_of : Item → Option Statement
+ordering_of x = option_map (Statement.Ordering x.subject) x.target
+
+abbrev pub compatibility_of : Item → Option Statement
+compatibility_of x = option_map (Statement.Compatibility x.subject) x.partner
+
+abbrev pub selection_of : Item → Option Statement
+selection_of x = option_map (λ out. Statement.Selection x.subject out.feature out.child) x.edge
+
+abbrev pub labelling_of : Item → Option Statement
+labelling_of x = option_map (Statement.Labelling x.subject) x.label
 
 -- what a record states, by rising bit
 unfoldable pub statements_of : Item → List Statement
 statements_of x =
-    stated_if (has 1 x.map) (Statement.Ordering x.subject x.target)
-    ++ (stated_if (has 2 x.map) (Statement.Compatibility x.subject x.partner)
-    ++ (stated_if (has 4 x.map) (Statement.Selection x.subject x.feature x.child)
-    ++ stated_if (has 8 x.map) (Statement.Labelling x.subject x.label)))
+    option_to_list (ordering_of x)
+    ++ (option_to_list (compatibility_of x)
+    ++ (option_to_list (selection_of x)
+    ++ option_to_list (labelling_of x)))
 
--- the statement of an item's one bit
+-- the statement of the first field that is there; of none, a label 0
 unfoldable pub statement_of : Item → Statement
 statement_of x =
-    pick (has 1 x.map) (Statement.Ordering x.subject x.target)
-    (pick (has 2 x.map) (Statement.Compatibility x.subject x.partner)
-    (pick (has 4 x.map) (Statement.Selection x.subject x.feature x.child)
-    (Statement.Labelling x.subject x.label)))
+    unwrap_or (ordering_of x)
+    (unwrap_or (compatibility_of x)
+    (unwrap_or (selection_of x) (Statement.Labelling x.subject (unwrap_or x.label (label 0)))))
 
 -- every variable that a statement names is below n
 abbrev pub Names : ℕ → Statement → Type 0

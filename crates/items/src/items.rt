@@ -1,17 +1,18 @@
 // Records and questions: one reader of an item, told its place.
 ghost use Rattle.std.specs.Prelude.{◌≡◌};
+ghost use Rattle.fields.specs.Fields.{variable_field, field_if};
 ghost use Rattle.fields.specs.Refusals.{defined_bits, several_bits, bad_item_map};
-ghost use Rattle.items.specs.Items.{map_field, fields_at, item_at, question_at, items_end};
+ghost use Rattle.items.specs.Items.{map_field, edge_field, label_field, fields_at, item_at, question_at, items_end};
 ghost use Rattle.items.specs.Questions.{question_of};
-ghost use Rattle.items.specs.Statements.{statement_of};
+ghost use Rattle.items.specs.Statements.{ordering_of, compatibility_of, selection_of, labelling_of, statement_of};
 
 use fields::{
-    ByteRead, Cursor, Fault, Feature, Label, Place, Refusal, Variable, VariableRead, WordRead,
-    has_bit, read_byte, read_variable, read_variable_if, read_word_if,
+    Cursor, Fault, Feature, Field, Label, Place, Read, Refusal, Variable, has_bit, read_byte,
+    read_if, read_variable, read_word,
 };
 
 // What a record states and a question asks.
-#[derive(Clone, Copy)]
+#[derive(Clone, Copy, Debug, PartialEq, Eq)]
 pub enum Statement {
     // i ≤ j
     Ordering(Variable, Variable),
@@ -24,58 +25,44 @@ pub enum Statement {
 }
 
 // What a question asks.
-#[derive(Clone, Copy)]
+#[derive(Clone, Copy, Debug, PartialEq, Eq)]
 pub enum Question {
     // whether a statement holds
     Holds(Statement),
 }
 
-// The fields of a record or question. A field whose bit is missing is 0.
-#[derive(Clone, Copy)]
-pub struct Item {
-    pub map: u8,
-    pub subject: Variable,
-    pub target: Variable,
-    pub partner: Variable,
+// A feature, and the child that it leads to.
+#[derive(Clone, Copy, Debug, PartialEq, Eq)]
+pub struct Edge {
     pub feature: Feature,
     pub child: Variable,
-    pub label: Label,
 }
 
-#[derive(Clone, Copy)]
-pub enum ItemRead {
-    Is(Item, Cursor),
-    Refused(Refusal),
+// The fields of a record or question, those behind the subject where their bits stand.
+#[derive(Clone, Copy, Debug, PartialEq, Eq)]
+pub struct Item {
+    pub subject: Variable,
+    pub target: Option<Variable>,
+    pub partner: Option<Variable>,
+    pub edge: Option<Edge>,
+    pub label: Option<Label>,
 }
 
-#[derive(Clone, Copy)]
-pub enum QuestionRead {
-    Asks(Question, Cursor),
-    Refused(Refusal),
-}
+// The bits of an item's map, each for a field behind the subject.
+const TARGET: u8 = 1;
 
-// Where a run of items ends.
-#[derive(Clone, Copy)]
-pub enum EndRead {
-    At(Cursor),
-    Refused(Refusal),
-}
+const PARTNER: u8 = 2;
+
+const EDGE: u8 = 4;
+
+const LABEL: u8 = 8;
 
 // A map other than one bit alone.
 #[tactic(auto, unfolding(fields::specs::Refusals::several_bits, fields::specs::Tests::same))]
 fn has_several_bits(map: u8) -> bool
     ensures { result ≡ several_bits map }
 {
-    if map == 1 {
-        return false;
-    }
-    if map == 2 {
-        return false;
-    }
-    if map == 4 {
-        return false;
-    }
-    map != 8
+    !matches!(map, TARGET | PARTNER | EDGE | LABEL)
 }
 
 // The sum of the bits that a place defines: 0 to 3.
@@ -107,109 +94,149 @@ fn is_bad_item_map(place: Place, map: u8) -> bool
 
 // An item's map.
 #[tactic(auto, unfolding(crate::specs::Items::map_field, fields::specs::Tests::pick))]
-fn read_map(place: Place, sheet: &[u8], from: Cursor) -> ByteRead
+fn read_map(place: Place, sheet: &[u8], from: Cursor) -> Read<u8>
     ensures { result ≡ map_field place sheet.now from }
 {
-    match read_byte(sheet, from) {
-        ByteRead::Refused(refusal) => ByteRead::Refused(refusal),
-        ByteRead::Is(field) => {
-            if is_bad_item_map(place, field.value) {
-                ByteRead::Refused(Refusal {
-                    fault: Fault::ItemMap,
-                    at: from.at,
-                })
-            } else {
-                ByteRead::Is(field)
-            }
-        }
+    let map = read_byte(sheet, from)?;
+    if is_bad_item_map(place, map.value) {
+        return Err(Refusal {
+            fault: Fault::ItemMap,
+            at: from.at,
+        });
     }
+    Ok(map)
+}
+
+// A feature and a child.
+#[tactic(auto, unfolding(crate::specs::Items::edge_field))]
+fn read_edge(sheet: &[u8], n: u8, from: Cursor) -> Read<Edge>
+    ensures { result ≡ edge_field sheet.now n from }
+{
+    let feature = read_word(sheet, from)?;
+    let child = read_variable(sheet, n, feature.next)?;
+    Ok(Field {
+        value: Edge {
+            feature: Feature(feature.value),
+            child: child.value,
+        },
+        next: child.next,
+    })
+}
+
+// A label.
+#[tactic(auto, unfolding(crate::specs::Items::label_field))]
+fn read_label(sheet: &[u8], from: Cursor) -> Read<Label>
+    ensures { result ≡ label_field sheet.now from }
+{
+    let label = read_word(sheet, from)?;
+    Ok(Field {
+        value: Label(label.value),
+        next: label.next,
+    })
+}
+
+// Each of them where its bit stands.
+fn read_variable_if(stands: bool, sheet: &[u8], n: u8, from: Cursor) -> Read<Option<Variable>>
+    ensures { result ≡ field_if stands (variable_field sheet.now n from) from }
+{
+    read_if(stands, from, || read_variable(sheet, n, from))
+}
+
+fn read_edge_if(stands: bool, sheet: &[u8], n: u8, from: Cursor) -> Read<Option<Edge>>
+    ensures { result ≡ field_if stands (edge_field sheet.now n from) from }
+{
+    read_if(stands, from, || read_edge(sheet, n, from))
+}
+
+fn read_label_if(stands: bool, sheet: &[u8], from: Cursor) -> Read<Option<Label>>
+    ensures { result ≡ field_if stands (label_field sheet.now from) from }
+{
+    read_if(stands, from, || read_label(sheet, from))
 }
 
 // The fields behind the subject, by rising bit.
 #[tactic(auto, unfolding(crate::specs::Items::fields_at))]
-fn read_fields(sheet: &[u8], n: u8, map: u8, subject: Variable, from: Cursor) -> ItemRead
+fn read_fields(sheet: &[u8], n: u8, map: u8, subject: Variable, from: Cursor) -> Read<Item>
     ensures { result ≡ fields_at sheet.now n map subject from }
 {
-    let target = match read_variable_if(has_bit(1, map), sheet, n, from) {
-        VariableRead::Is(field) => field,
-        VariableRead::Refused(refusal) => return ItemRead::Refused(refusal),
-    };
-    let partner = match read_variable_if(has_bit(2, map), sheet, n, target.next) {
-        VariableRead::Is(field) => field,
-        VariableRead::Refused(refusal) => return ItemRead::Refused(refusal),
-    };
-    let selects = has_bit(4, map);
-    let feature = match read_word_if(selects, sheet, partner.next) {
-        WordRead::Is(field) => field,
-        WordRead::Refused(refusal) => return ItemRead::Refused(refusal),
-    };
-    let child = match read_variable_if(selects, sheet, n, feature.next) {
-        VariableRead::Is(field) => field,
-        VariableRead::Refused(refusal) => return ItemRead::Refused(refusal),
-    };
-    let label = match read_word_if(has_bit(8, map), sheet, child.next) {
-        WordRead::Is(field) => field,
-        WordRead::Refused(refusal) => return ItemRead::Refused(refusal),
-    };
-    let j = target.value;
-    let p = partner.value;
-    let k = child.value;
-    let next = label.next;
-    let x = Item {
-        map: map,
-        subject: subject,
-        target: j,
-        partner: p,
-        feature: Feature(feature.value),
-        child: k,
-        label: Label(label.value),
-    };
-    ItemRead::Is(x, next)
+    let target = read_variable_if(has_bit(TARGET, map), sheet, n, from)?;
+    let partner = read_variable_if(has_bit(PARTNER, map), sheet, n, target.next)?;
+    let edge = read_edge_if(has_bit(EDGE, map), sheet, n, partner.next)?;
+    let label = read_label_if(has_bit(LABEL, map), sheet, edge.next)?;
+    Ok(Field {
+        value: Item {
+            subject,
+            target: target.value,
+            partner: partner.value,
+            edge: edge.value,
+            label: label.value,
+        },
+        next: label.next,
+    })
 }
 
 // The item at a cursor, over n variables.
 #[tactic(auto, unfolding(crate::specs::Items::item_at))]
-pub fn read_item(place: Place, sheet: &[u8], n: u8, from: Cursor) -> ItemRead
+pub fn read_item(place: Place, sheet: &[u8], n: u8, from: Cursor) -> Read<Item>
     ensures { result ≡ item_at place sheet.now n from }
 {
-    let map = match read_map(place, sheet, from) {
-        ByteRead::Is(field) => field,
-        ByteRead::Refused(refusal) => return ItemRead::Refused(refusal),
-    };
-    match read_variable(sheet, n, map.next) {
-        VariableRead::Is(subject) => read_fields(sheet, n, map.value, subject.value, subject.next),
-        VariableRead::Refused(refusal) => ItemRead::Refused(refusal),
-    }
+    let map = read_map(place, sheet, from)?;
+    let subject = read_variable(sheet, n, map.next)?;
+    read_fields(sheet, n, map.value, subject.value, subject.next)
 }
 
 // A record at a cursor.
-pub fn read_record(sheet: &[u8], n: u8, from: Cursor) -> ItemRead
+pub fn read_record(sheet: &[u8], n: u8, from: Cursor) -> Read<Item>
     ensures { result ≡ item_at Place.Record sheet.now n from }
 {
     read_item(Place::Record, sheet, n, from)
 }
 
-// The statement of an item's one bit.
-#[tactic(auto, unfolding(crate::specs::Statements::statement_of, fields::specs::Tests::pick))]
+// The statement that each field makes with the subject, where it is there.
+impl Item {
+    pub fn ordering(self) -> Option<Statement>
+        ensures { result ≡ ordering_of self }
+    {
+        self.target
+            .map(|target| Statement::Ordering(self.subject, target))
+    }
+
+    pub fn compatibility(self) -> Option<Statement>
+        ensures { result ≡ compatibility_of self }
+    {
+        self.partner
+            .map(|partner| Statement::Compatibility(self.subject, partner))
+    }
+
+    pub fn selection(self) -> Option<Statement>
+        ensures { result ≡ selection_of self }
+    {
+        self.edge.map(|edge| Statement::Selection(self.subject, edge.feature, edge.child))
+    }
+
+    pub fn labelling(self) -> Option<Statement>
+        ensures { result ≡ labelling_of self }
+    {
+        self.label
+            .map(|label| Statement::Labelling(self.subject, label))
+    }
+}
+
+// The statement of the first field that is there.
+#[tactic(auto, unfolding(crate::specs::Statements::statement_of))]
 fn statement_of(x: Item) -> Statement
     ensures { result ≡ statement_of x }
 {
-    let subject = x.subject;
-    if has_bit(1, x.map) {
-        let target = x.target;
-        return Statement::Ordering(subject, target);
+    if let Some(statement) = x.ordering() {
+        return statement;
     }
-    if has_bit(2, x.map) {
-        let partner = x.partner;
-        return Statement::Compatibility(subject, partner);
+    if let Some(statement) = x.compatibility() {
+        return statement;
     }
-    if has_bit(4, x.map) {
-        let feature = x.feature;
-        let child = x.child;
-        return Statement::Selection(subject, feature, child);
+    if let Some(statement) = x.selection() {
+        return statement;
     }
-    let label = x.label;
-    Statement::Labelling(subject, label)
+    Statement::Labelling(x.subject, x.label.unwrap_or(Label(0)))
 }
 
 // What a question asks.
@@ -222,30 +249,30 @@ pub fn question_of(x: Item) -> Question
 
 // A question at a cursor.
 #[tactic(auto, unfolding(crate::specs::Items::question_at))]
-pub fn read_question(sheet: &[u8], n: u8, from: Cursor) -> QuestionRead
+pub fn read_question(sheet: &[u8], n: u8, from: Cursor) -> Read<Question>
     ensures { result ≡ question_at sheet.now n from }
 {
-    match read_item(Place::Question, sheet, n, from) {
-        ItemRead::Is(x, next) => QuestionRead::Asks(question_of(x), next),
-        ItemRead::Refused(refusal) => QuestionRead::Refused(refusal),
-    }
+    let item = read_item(Place::Question, sheet, n, from)?;
+    Ok(Field {
+        value: question_of(item.value),
+        next: item.next,
+    })
 }
 
 // Where so many items from a cursor on end.
-#[tactic(auto, using(crate::proofs::Runs::run_over, crate::proofs::Runs::run_on, crate::proofs::Runs::run_refused))]
-pub fn items_end(count: u16, place: Place, sheet: &[u8], n: u8, from: Cursor) -> EndRead
+#[tactic(auto, using(crate::proofs::Runs::run_over, crate::proofs::Runs::run_step, crate::proofs::Runs::run_refused))]
+pub fn items_end(
+    count: u16,
+    place: Place,
+    sheet: &[u8],
+    n: u8,
+    from: Cursor,
+) -> Result<Cursor, Refusal>
     ensures { result ≡ items_end count place sheet.now n from }
 {
-    let mut left = count;
     let mut at = from;
-    while 0 < left {
-        match read_item(place, sheet, n, at) {
-            ItemRead::Is(_, next) => {
-                at = next;
-            }
-            ItemRead::Refused(refusal) => return EndRead::Refused(refusal),
-        }
-        left -= 1;
+    for _ in 0..count {
+        at = read_item(place, sheet, n, at)?.next;
     }
-    EndRead::At(at)
+    Ok(at)
 }

@@ -3,7 +3,4 @@
 
 mod items;
 
-pub use items::{
-    EndRead, Item, ItemRead, Question, QuestionRead, Statement, items_end, read_question,
-    read_record,
-};
+pub use items::{Edge, Item, Question, Statement, items_end, read_question, read_record};

@@ -1,13 +1,14 @@
 -- Labels as kept: how they stand for the statements, and what they tell of other and of different labels.
 use borrow.Author.Tests.{not-true}
 use Prim.Native.Nat.{ℕ, ◌<◌, ◌≤◌}
-use lib.ListN.{length, get_or, replicate, length-set, length-replicate, get_or-replicate}
+use lib.ListN.{replicate, length-set, length-replicate, get_or-replicate}
 use lib.Seq.{get_or-set_same, get_or-set_other}
-use mathlib.Core.Bool.{Bool, true, false, not}
+use mathlib.Core.Bool.{Bool, true, false, not, true≢false, false≢true}
 use mathlib.Core.List.Memᴰ
 use mathlib.Core.List.{List, [], ◌∷◌, ◌++◌}
 use mathlib.Core.Path.{◌≡◌, refl, sym, ap, subst, ◌∙◌}
 use native.Mathlib.Omega.{arith}
+use Rattle.fields.specs.Fields.{label}
 use Rattle.fields.specs.Limits.{most_variables}
 use Rattle.fields.specs.Tests.{same, pick}
 use Rattle.fields.proofs.Choice.{is_same, not_same, same_true, same_false}
@@ -18,7 +19,9 @@ use Rattle.rules.proofs.Logic.{both, first_of_and, second_of_and, decided, refut
 use Rattle.rules.proofs.Some.{by_labelling, one_labelling}
 use Rattle.rules.proofs.More.{still, last_stated, stated_of}
 use Rattle.rules.proofs.Clashing.{differ_by, differ_of}
-use Rattle.labels.specs.Labels.{LabelsAt, LabelsStand, counts_with, labels_with, NoLabelling, other_stated}
+use Rattle.labels.specs.declared.spread.Spread.{Spread}
+use Rattle.labels.specs.Spreads.{has_any, is_several, is_only, has_other, differ, with_labels, spread_at}
+use Rattle.labels.specs.Labels.{TwoLabels, LabelsAt, LabelsStand, spreads_with, NoLabelling, other_stated}
 use Rattle.labels.specs.Labels.{OtherTold, DifferTold}
 
 -- another label, by its test
@@ -34,56 +37,66 @@ other_of st j a p next =
     next b (subst (λ k. Stated st (labelling k b)) (sym (same_true j y (first_of_and _ _ q))) s)
     (same_false a b (not-true _ (second_of_and (same j y) _ q)))
 
--- a count and a label of j tell whether another label is stated
-module _ {st : List Statement} {j count label : ℕ} (at : LabelsAt st j count label) (a : ℕ) where
-  pub none_other : count ≡ 0 → other_stated st j a ≡ false
-  none_other e = refuted _ λ p. other_of st j a p λ b s d. at.none e b s
+-- the labels of j tell whether another than a is stated
+pub other_told : {st : List Statement} {j : ℕ} {s : Spread} → LabelsAt st j s → (a : ℕ)
+    → has_other s a ≡ other_stated st j a
+other_told {st} {j} (LabelsAt.none none) a = sym (refuted _ λ p. other_of st j a p λ b s d. none b s)
+other_told {st} {j} (LabelsAt.one {a = b} one) a =
+    decided (same b.0 a)
+    (λ p. rw p (sym (refuted _ λ q. other_of st j a q λ c s d. d (sym (same_true _ _ p) ∙ sym (one.only c s)))))
+    (λ p. rw p (sym (other_by one.stated (λ q. same_false _ _ p (sym q)))))
+other_told {st} {j} (LabelsAt.several two) a =
+    decided (same a two.first)
+    (λ p. sym (other_by two.second_stated λ q. two.differs (sym (same_true _ _ p) ∙ q)))
+    (λ p. sym (other_by two.first_stated (same_false _ _ p)))
 
-  pub one_other : count ≡ 1 → other_stated st j a ≡ not (same label a)
-  one_other e =
-      decided (same label a)
-      (λ p. rw p (refuted _ λ q. other_of st j a q λ b s d. d (sym (same_true _ _ p) ∙ sym (at.only e b s))))
-      (λ p. rw p (other_by (at.first (omega arith)) (λ q. same_false _ _ p (sym q))))
+-- and whether a is, where it is the only one
+pub only_stated : {st : List Statement} {j a : ℕ} {s : Spread} → LabelsAt st j s → is_only s a ≡ true
+    → Stated st (labelling j a)
+only_stated (LabelsAt.none none) e = absurd (false≢true e)
+only_stated {st} {j} (LabelsAt.one one) e = subst (λ b. Stated st (labelling j b)) (same_true _ _ e) one.stated
+only_stated (LabelsAt.several two) e = absurd (false≢true e)
 
-  -- of two different labels one is not a
-  pub several_other : 1 < count → other_stated st j a ≡ true
-  several_other e =
-      let found = at.other e in
-      decided (same a label)
-      (λ p. other_by found.stated λ q. found.differs (sym q ∙ same_true _ _ p))
-      (λ p. other_by (at.first (omega arith)) (same_false _ _ p))
+pub stated_only : {st : List Statement} {j a : ℕ} {s : Spread} → LabelsAt st j s → is_several s ≡ false
+    → Stated st (labelling j a) → is_only s a ≡ true
+stated_only (LabelsAt.none none) few s = absurd (none _ s)
+stated_only (LabelsAt.one one) few s = is_same _ _ (sym (one.only _ s))
+stated_only (LabelsAt.several two) few s = absurd (true≢false few)
 
--- and of two variables whether their labels differ
-module _ {st : List Statement} {i count label : ℕ} (j : ℕ) (at : LabelsAt st i count label) where
-  pub none_differ : count ≡ 0 → labels_differ st i j ≡ false
-  none_differ e = refuted _ λ p. differ_of st i j p λ a b s s' d. at.none e a s
+-- where there are several, two differ
+pub several_two : {st : List Statement} {i : ℕ} {s : Spread} → LabelsAt st i s → is_several s ≡ true → TwoLabels st i
+several_two (LabelsAt.none none) e = absurd (false≢true e)
+several_two (LabelsAt.one one) e = absurd (false≢true e)
+several_two (LabelsAt.several two) e = two
 
-  pub one_differ : count ≡ 1 → labels_differ st i j ≡ other_stated st j label
-  one_differ e =
-      same_tests _ _
-      (λ p. differ_of st i j p λ a b s s' d. other_by s' λ q. d (at.only e a s ∙ q))
-      (λ p. other_of st j _ p λ b s d. differ_by (at.first (omega arith)) s d)
+-- a variable without a label differs from none
+pub none_differ : {st : List Statement} {i : ℕ} {s : Spread} (j : ℕ) → LabelsAt st i s → has_any s ≡ false
+    → labels_differ st i j ≡ false
+none_differ {st} {i} j (LabelsAt.none none) e = refuted _ λ p. differ_of st i j p λ a b s s' d. none a s
+none_differ j (LabelsAt.one one) e = absurd (true≢false e)
+none_differ j (LabelsAt.several two) e = absurd (true≢false e)
 
-  pub several_differ : {count' label' : ℕ} → LabelsAt st j count' label' → 1 < count
-      → labels_differ st i j ≡ not (same count' 0)
-  several_differ {count'} {label'} at' e =
-      decided (same count' 0)
-      (λ p. rw p (refuted _ λ q. differ_of st i j q λ a b s s' d. at'.none (same_true _ _ p) b s'))
-      (λ p. rw p
-      (let none = same_false _ _ p in
-      let here = at'.first (omega arith) in
-      other_of st i label' (several_other at _ e) λ b s d. differ_by s here (λ q. d (sym q))))
+-- of two different labels of i one is not b
+two_differ : {st : List Statement} {i j b : ℕ} → TwoLabels st i → Stated st (labelling j b)
+    → labels_differ st i j ≡ true
+two_differ {st} {i} {j} {b} two here =
+    other_of st i b (sym (other_told (LabelsAt.several two) b)) λ a s d. differ_by s here (λ q. d (sym q))
 
--- where i has one label alone, what is told of other labels of j is told of both
-pub one_told : {counts labels : List ℕ} {i j : ℕ} {r : Bool} → OtherTold counts labels j (get_or labels i 0) r
-    → get_or counts i 0 ≡ 1 → DifferTold counts labels i j r
-one_told other e =
-    record { told = λ n st stand h g. other.told n st stand g ∙ sym (one_differ _ (stand.at _ h) e) }
+-- the labels of i and of j tell whether two differ
+module _ {st : List Statement} {i j : ℕ} where
+  any_told : {s : Spread} → TwoLabels st i → LabelsAt st j s → has_any s ≡ labels_differ st i j
+  any_told two (LabelsAt.none none) = sym (refuted _ λ p. differ_of st i j p λ a b s s' d. none b s')
+  any_told two (LabelsAt.one one) = sym (two_differ two one.stated)
+  any_told two (LabelsAt.several two') = sym (two_differ two two'.first_stated)
 
--- what decides whether another label of j is stated, and whether i and j have two that differ
-pub ruleset other_labels = (none_other, one_other, several_other)
-
-pub ruleset differing_labels = (none_differ, one_told, several_differ)
+  pub differ_told : {s s' : Spread} → LabelsAt st i s → LabelsAt st j s' → differ s s' ≡ labels_differ st i j
+  differ_told (LabelsAt.none none) at' = sym (none_differ j (LabelsAt.none none) refl)
+  differ_told (LabelsAt.one one) at' =
+      other_told at' _
+      ∙ same_tests _ _
+      (λ p. other_of st j _ p λ b s d. differ_by one.stated s d)
+      (λ p. differ_of st i j p λ c b s s' d. other_by s' λ q. d (one.only c s ∙ q))
+  differ_told (LabelsAt.several two) at' = any_told two at'
 
 -- subject and label of a labelling
 abbrev pub subject_of : Statement → ℕ
@@ -98,119 +111,92 @@ label_of (Statement.Compatibility i j) = 0
 label_of (Statement.Selection i f j) = 0
 label_of (Statement.Labelling i a) = a.0
 
--- one statement more leaves what is told of i, unless it is a label of i that is new
-kept_at : {st : List Statement} {i count label : ℕ} (q : Statement) → LabelsAt st i count label
-    → ((a : ℕ) → labelling i a ≡ q → (count ≡ 0 → ⊥) × (a ≡ label)) → LabelsAt (st ++ (q ∷ [])) i count label
-kept_at {st} {i} q at again =
-    record {
-      none = λ e a m. stated_of st q m (at.none e a) (λ p. (again a p).0 e);
-      first = λ e. still q (at.first e);
-      only = λ e a m. stated_of st q m (at.only e a) (λ p. (again a p).1);
-      other = λ e.
-          let found = at.other e in
-          record { label = found.label; stated = still q found.stated; differs = found.differs };
-    }
-
--- one label more of i: the first, or another
-module _ {st : List Statement} {i count label : ℕ} (a : ℕ) (at : LabelsAt st i count label) where
-  first_noted : count ≡ 0 → LabelsAt (st ++ (labelling i a ∷ [])) i 1 a
-  first_noted e =
+-- one statement more leaves two different labels, and leaves what is told of i unless it is a label of i
+module _ {st : List Statement} {i : ℕ} (q : Statement) where
+  still_two : TwoLabels st i → TwoLabels (st ++ (q ∷ [])) i
+  still_two two =
       record {
-        none = λ p. absurd (omega arith);
-        first = λ p. last_stated st _;
-        only = λ p b m. stated_of st _ m (λ s. absurd (at.none e b s)) (ap label_of);
-        other = λ p. absurd (omega arith);
+        first = two.first;
+        second = two.second;
+        first_stated = still q two.first_stated;
+        second_stated = still q two.second_stated;
+        differs = two.differs;
       }
 
-  other_noted : (count ≡ 0 → ⊥) → (label ≡ a → ⊥) → LabelsAt (st ++ (labelling i a ∷ [])) i 2 label
-  other_noted e other =
-      record {
-        none = λ p. absurd (omega arith);
-        first = λ p. still _ (at.first (omega arith));
-        only = λ p. absurd (omega arith);
-        other = λ p. record { label = a; stated = last_stated st _; differs = λ q. other (sym q) };
-      }
+  kept_at : {s : Spread} → LabelsAt st i s → ((a : ℕ) → labelling i a ≡ q → ⊥) → LabelsAt (st ++ (q ∷ [])) i s
+  kept_at (LabelsAt.none none) other = LabelsAt.none λ a m. stated_of st q m (none a) (other a)
+  kept_at (LabelsAt.one one) other =
+      LabelsAt.one (record {
+        stated = still q one.stated;
+        only = λ a m. stated_of st q m (one.only a) (λ p. absurd (other a p));
+      })
+  kept_at (LabelsAt.several two) other = LabelsAt.several (still_two two)
+
+-- one label more of i: the first, the same again, or another
+noted_at : {st : List Statement} {i : ℕ} {s : Spread} (a : ℕ) → LabelsAt st i s
+    → LabelsAt (st ++ (labelling i a ∷ [])) i (with_labels s (Spread.One (label a)))
+unfolding with_labels pick
+noted_at {st} a (LabelsAt.none none) =
+    LabelsAt.one (record {
+      stated = last_stated st _;
+      only = λ b m. stated_of st _ m (λ s. absurd (none b s)) (ap label_of);
+    })
+noted_at {st} a (LabelsAt.one {a = b} one) =
+    decided (same b.0 a)
+    (λ p. rw p (LabelsAt.one (record {
+      stated = still _ one.stated;
+      only = λ c m. stated_of st _ m (one.only c) (λ e. ap label_of e ∙ sym (same_true _ _ p));
+    })))
+    (λ p. rw p (LabelsAt.several (record {
+      first = b.0;
+      second = a;
+      first_stated = still _ one.stated;
+      second_stated = last_stated st _;
+      differs = same_false _ _ p;
+    })))
+noted_at a (LabelsAt.several two) = LabelsAt.several (still_two _ two)
 
 -- no statement, no label
-pub no_labels : (n : ℕ) (labels : List ℕ) → n ≤ most_variables → length labels ≡ most_variables
-    → LabelsStand n [] (replicate most_variables 0) labels
-no_labels n labels few size =
+pub no_labels : (n : ℕ) → n ≤ most_variables → LabelsStand n [] (replicate most_variables Spread.Nothing)
+no_labels n few =
     record {
-      counts_size = length-replicate {A = ℕ} most_variables 0;
-      labels_size = size;
+      size = length-replicate {A = Spread} most_variables Spread.Nothing;
       at = λ i h.
-          let e = get_or-replicate {A = ℕ} most_variables i 0 0 (omega arith) in
-          record {
-            none = λ p a s. Memᴰ.not-nil s;
-            first = λ p. absurd (omega arith);
-            only = λ p a s. absurd (Memᴰ.not-nil s);
-            other = λ p. absurd (omega arith);
-          };
+          rw (get_or-replicate {A = Spread} most_variables i Spread.Nothing Spread.Nothing (omega arith))
+          (LabelsAt.none λ a s. Memᴰ.not-nil s);
     }
 
-module _ {n : ℕ} {st : List Statement} {counts labels : List ℕ} (stand : LabelsStand n st counts labels) where
-  -- a statement of another kind leaves counts and labels
-  pub other_kind : (q : Statement) → NoLabelling q → LabelsStand n (st ++ (q ∷ [])) counts labels
+module _ {n : ℕ} {st : List Statement} {spreads : List Spread} (stand : LabelsStand n st spreads) where
+  -- a statement of another kind leaves the spreads
+  pub other_kind : (q : Statement) → NoLabelling q → LabelsStand n (st ++ (q ∷ [])) spreads
   other_kind q other =
       record {
-        counts_size = stand.counts_size;
-        labels_size = stand.labels_size;
+        size = stand.size;
         at = λ i h. kept_at q (stand.at i h) λ a p. absurd (subst NoLabelling (sym p) other);
       }
 
   -- one label more is noted
-  module _ (i a : ℕ) (few : i < most_variables) where
-    counts_long : length (counts_with counts labels i a) ≡ most_variables
-    unfolding counts_with pick
-    counts_long =
-        let size = stand.counts_size in
-        decided (same (get_or counts i 0) 0)
-        (λ p. rw p (length-set counts i 1 ∙ size))
-        (λ p. rw p (decided (same (get_or labels i 0) a) (λ q. rw q size) (λ q. rw q (length-set counts i 2 ∙ size))))
+  pub noted : (i a : ℕ) → i < most_variables → LabelsStand n (st ++ (labelling i a ∷ [])) (spreads_with spreads i a)
+  unfolding spreads_with
+  noted i a few =
+      let size = stand.size in
+      let more = with_labels (spread_at spreads i) (Spread.One (label a)) in
+      record {
+        size = length-set spreads i more ∙ size;
+        at = λ x h.
+            decided (same x i)
+            (λ p. let e = same_true x i p in
+            rw (e, get_or-set_same spreads i more Spread.Nothing (omega arith)) (noted_at a (stand.at i (rw (← e) h))))
+            (λ p. let d = same_false x i p in
+            rw (get_or-set_other spreads i x more Spread.Nothing d)
+            (kept_at _ (stand.at x h) λ b q. absurd (d (ap subject_of q))));
+      }
 
-    labels_long : length (labels_with counts labels i a) ≡ most_variables
-    unfolding labels_with pick
-    labels_long =
-        let size = stand.labels_size in
-        decided (same (get_or counts i 0) 0) (λ p. rw p (length-set labels i a ∙ size)) (λ p. rw p size)
+-- what is told by the spreads of the variables
+pub by_other : (spreads : List Spread) (j a : ℕ) {r : Bool} → r ≡ has_other (spread_at spreads j) a
+    → OtherTold spreads j a r
+by_other spreads j a e = record { told = λ n st stand h. e ∙ other_told (stand.at j h) a }
 
-    -- for i itself, and for any other variable
-    here_noted : i < n
-        → LabelsAt (st ++ (labelling i a ∷ [])) i (get_or (counts_with counts labels i a) i 0)
-        (get_or (labels_with counts labels i a) i 0)
-    unfolding counts_with labels_with pick
-    here_noted h =
-        let size = stand.counts_size in
-        let size' = stand.labels_size in
-        let at = stand.at i h in
-        decided (same (get_or counts i 0) 0)
-        (λ p. rw (p, get_or-set_same counts i 1 0 (omega arith), get_or-set_same labels i a 0 (omega arith))
-        (first_noted a at (same_true _ _ p)))
-        (λ p. rw p (decided (same (get_or labels i 0) a)
-        (λ q. rw q (kept_at _ at λ b e. (same_false _ _ p, ap label_of e ∙ sym (same_true _ _ q))))
-        (λ q. rw (q, get_or-set_same counts i 2 0 (omega arith))
-        (other_noted a at (same_false _ _ p) (same_false _ _ q)))))
-
-    there_counts : (x : ℕ) → (x ≡ i → ⊥) → get_or (counts_with counts labels i a) x 0 ≡ get_or counts x 0
-    unfolding counts_with pick
-    there_counts x d =
-        decided (same (get_or counts i 0) 0)
-        (λ p. rw p (get_or-set_other counts i x 1 0 d))
-        (λ p. rw p (decided (same (get_or labels i 0) a) (λ q. rw q) (λ q. rw q (get_or-set_other counts i x 2 0 d))))
-
-    there_labels : (x : ℕ) → (x ≡ i → ⊥) → get_or (labels_with counts labels i a) x 0 ≡ get_or labels x 0
-    unfolding labels_with pick
-    there_labels x d =
-        decided (same (get_or counts i 0) 0) (λ p. rw p (get_or-set_other labels i x a 0 d)) (λ p. rw p)
-
-    pub noted : LabelsStand n (st ++ (labelling i a ∷ [])) (counts_with counts labels i a) (labels_with counts labels i a)
-    noted =
-        record {
-          counts_size = counts_long;
-          labels_size = labels_long;
-          at = λ x h.
-              decided (same x i)
-              (λ p. let e = same_true x i p in rw e (here_noted (rw (← e) h)))
-              (λ p. let d = same_false x i p in
-              rw (there_counts x d, there_labels x d) (kept_at _ (stand.at x h) λ b q. absurd (d (ap subject_of q))));
-        }
+pub by_differ : (spreads : List Spread) (i j : ℕ) {r : Bool} → r ≡ differ (spread_at spreads i) (spread_at spreads j)
+    → DifferTold spreads i j r
+by_differ spreads i j e = record { told = λ n st stand h g. e ∙ differ_told (stand.at i h) (stand.at j g) }

@@ -5,6 +5,7 @@ use mathlib.Core.Bool.{false, not, true≢false}
 use mathlib.Core.List.{List, [], ◌∷◌, ◌++◌}
 use mathlib.Core.Path.{◌≡◌, sym, ap, subst, ◌∙◌}
 use native.Mathlib.Omega.{arith}
+use Rattle.fields.specs.declared.numbers.Label.{Label}
 use Rattle.fields.specs.Tests.{same, pick}
 use Rattle.fields.proofs.Choice.{same_true}
 use Rattle.items.specs.declared.items.Statement.{Statement}
@@ -17,7 +18,7 @@ use Rattle.rules.proofs.More.{stated_of}
 use Rattle.rules.proofs.Clashing.{differ_of, clashing}
 use Rattle.labels.specs.declared.spread.Spread.{Spread}
 use Rattle.labels.specs.Labels.{LabelsAt, LabelsStand}
-use Rattle.labels.specs.Spreads.{with_label, with_labels, spread_below, can_clash}
+use Rattle.labels.specs.Spreads.{with_labels, spread_below, can_clash}
 use Rattle.labels.proofs.Kept.{label_of}
 
 -- every label that st states is b
@@ -37,40 +38,40 @@ Means m st Spread.Nothing = (i a : ℕ) → i < m → Stated st (labelling i a) 
 Means m st (Spread.One b) = (i a : ℕ) → i < m → Stated st (labelling i a) → a ≡ b.0
 Means m st Spread.Several = Unit {0}
 
-module _ (m : ℕ) (st : List Statement) {count first : ℕ} (at : LabelsAt st m count first) where
+module _ (m : ℕ) (st : List Statement) where
   -- a property of the labels of m and of the variables below
   up_to : (P : ℕ → Type 0) → ((a : ℕ) → Stated st (labelling m a) → P a)
       → ((i a : ℕ) → i < m → Stated st (labelling i a) → P a) → (i a : ℕ) → i < suc m → Stated st (labelling i a) → P a
   up_to P here below i a h s =
       last_or_before i m h (λ e. here a (subst (λ k. Stated st (labelling k a)) e s)) (λ b. below i a b s)
 
-  none_means : (s : Spread) → count ≡ 0 → Means m st s → Means (suc m) st s
-  none_means Spread.Nothing e means = up_to (λ a. ⊥) (at.none e) means
-  none_means (Spread.One b) e means = up_to (λ a. a ≡ b.0) (λ a s. absurd (at.none e a s)) means
-  none_means Spread.Several e means = tt
+  first_means : {s : Spread} → LabelsAt st m s → Means m st Spread.Nothing → Means (suc m) st s
+  first_means (LabelsAt.none none) means = up_to (λ a. ⊥) none means
+  first_means (LabelsAt.one {a = b} one) means = up_to (λ a. a ≡ b.0) one.only (λ i a h s. absurd (means i a h s))
+  first_means (LabelsAt.several two) means = tt
 
-  one_means : (s : Spread) → count ≡ 1 → Means m st s → Means (suc m) st (with_label s first)
-  unfolding with_label pick
-  one_means Spread.Nothing e means = up_to (λ a. a ≡ first) (at.only e) (λ i a h s. absurd (means i a h s))
-  one_means (Spread.One b) e means =
-      decided (same b.0 first)
-      (λ p. rw p (up_to (λ a. a ≡ b.0) (λ a s. at.only e a s ∙ sym (same_true _ _ p)) means))
-      (λ p. rw p tt)
-  one_means Spread.Several e means = tt
-
-  more_means : (s : Spread) → Means m st s → Means (suc m) st (with_labels s count first)
+  one_means : {s : Spread} (b : Label) → LabelsAt st m s → Means m st (Spread.One b)
+      → Means (suc m) st (with_labels (Spread.One b) s)
   unfolding with_labels pick
-  more_means s means =
-      decided (same count 0)
-      (λ p. rw p (none_means s (same_true _ _ p) means))
-      (λ p. rw p (decided (same count 1) (λ q. rw q (one_means s (same_true _ _ q) means)) (λ q. rw q tt)))
+  one_means b (LabelsAt.none none) means = up_to (λ a. a ≡ b.0) (λ a s. absurd (none a s)) means
+  one_means b (LabelsAt.one {a = c} one) means =
+      decided (same b.0 c.0)
+      (λ p. rw p (up_to (λ a. a ≡ b.0) (λ a s. one.only a s ∙ sym (same_true _ _ p)) means))
+      (λ p. rw p tt)
+  one_means b (LabelsAt.several two) means = tt
 
-spread_means : {n : ℕ} {st : List Statement} {counts labels : List ℕ} → LabelsStand n st counts labels
-    → (m : ℕ) → m ≤ n → Means m st (spread_below m counts labels)
+  more_means : {s' : Spread} (s : Spread) → LabelsAt st m s' → Means m st s → Means (suc m) st (with_labels s s')
+  unfolding with_labels
+  more_means Spread.Nothing at means = first_means at means
+  more_means (Spread.One b) at means = one_means b at means
+  more_means Spread.Several at means = tt
+
+spread_means : {n : ℕ} {st : List Statement} {spreads : List Spread} → LabelsStand n st spreads
+    → (m : ℕ) → m ≤ n → Means m st (spread_below m spreads)
 unfolding spread_below
 spread_means stand zero h = λ i a g s. absurd (omega arith)
-spread_means {n} {st} {counts} {labels} stand (suc m) h =
-    more_means m st (stand.at m (omega arith)) (spread_below m counts labels) (spread_means stand m (omega arith))
+spread_means {n} {st} {spreads} stand (suc m) h =
+    more_means m st (spread_below m spreads) (stand.at m (omega arith)) (spread_means stand m (omega arith))
 
 -- with a question behind the statements
 by_spread : (n : ℕ) (st : List Statement) (q : Statement) → AllName n (st ++ (q ∷ [])) → (s : Spread) → Means n st s
@@ -85,8 +86,7 @@ by_spread n st q fit (Spread.One b) means e =
     sym (same_true _ _ (not-false _ (subst (λ x. if_labelling (λ i c. not (same b.0 c)) x ≡ false) (sym p) e)))
 by_spread n st q fit Spread.Several means e = absurd (true≢false e)
 
-pub skip : {n : ℕ} {st : List Statement} {counts labels : List ℕ} → LabelsStand n st counts labels → (q : Statement)
-    → AllName n (st ++ (q ∷ [])) → can_clash (spread_below n counts labels) q ≡ false
-    → clashes (st ++ (q ∷ [])) n ≡ false
-skip {n} {st} {counts} {labels} stand q fit e =
-    by_spread n st q fit (spread_below n counts labels) (spread_means stand n (omega arith)) e
+pub skip : {n : ℕ} {st : List Statement} {spreads : List Spread} → LabelsStand n st spreads → (q : Statement)
+    → AllName n (st ++ (q ∷ [])) → can_clash (spread_below n spreads) q ≡ false → clashes (st ++ (q ∷ [])) n ≡ false
+skip {n} {st} {spreads} stand q fit e =
+    by_spread n st q fit (spread_below n spreads) (spread_means stand n (omega arith)) e

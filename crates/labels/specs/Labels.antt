@@ -1,38 +1,43 @@
--- The labels stated for each variable, as they are kept: how many different ones (0, 1, or 2 for more), and the first.
-use Rattle.std.specs.Prelude.{ℕ, ◌<◌, length, get_or, set, Bool, not, List, ◌≡◌}
+-- The labels stated for each variable, as they are kept: none, one, or several.
+use Rattle.std.specs.Prelude.{ℕ, ◌<◌, length, set, Bool, not, List, ◌≡◌}
+use Rattle.fields.specs.declared.numbers.Label.{Label}
+use Rattle.fields.specs.Fields.{label}
 use Rattle.fields.specs.Limits.{most_variables}
-use Rattle.fields.specs.Tests.{same, pick}
+use Rattle.fields.specs.Tests.{same}
 use Rattle.items.specs.declared.items.Statement.{Statement}
 use Rattle.rules.specs.Connectives.{◌and◌}
 use Rattle.rules.specs.Stated.{labelling, Stated, some_labelling}
 use Rattle.rules.specs.Clashes.{labels_differ}
+use Rattle.labels.specs.declared.spread.Spread.{Spread}
+use Rattle.labels.specs.Spreads.{spread_at, with_labels}
 
--- a label of i other than a
-pub record OtherLabel (st : List Statement) (i a : ℕ) : Type 0 where
-  pub label : ℕ
-  pub stated : Stated st (labelling i label)
-  pub differs : label ≡ a → ⊥
+-- a is a label of i, and no other is
+pub record OnlyLabel (st : List Statement) (i a : ℕ) : Type 0 where
+  pub stated : Stated st (labelling i a)
+  pub only : (b : ℕ) → Stated st (labelling i b) → b ≡ a
 
--- a count and a label tell what st states of the labels of i
-pub record LabelsAt (st : List Statement) (i count label : ℕ) : Type 0 where
-  pub none : count ≡ 0 → (a : ℕ) → Stated st (labelling i a) → ⊥
-  pub first : 0 < count → Stated st (labelling i label)
-  pub only : count ≡ 1 → (a : ℕ) → Stated st (labelling i a) → a ≡ label
-  pub other : 1 < count → OtherLabel st i label
+-- two different labels of i
+pub record TwoLabels (st : List Statement) (i : ℕ) : Type 0 where
+  pub first : ℕ
+  pub second : ℕ
+  pub first_stated : Stated st (labelling i first)
+  pub second_stated : Stated st (labelling i second)
+  pub differs : first ≡ second → ⊥
 
--- counts and labels tell it of the variables below n
-pub record LabelsStand (n : ℕ) (st : List Statement) (counts labels : List ℕ) : Type 0 where
-  pub counts_size : length counts ≡ most_variables
-  pub labels_size : length labels ≡ most_variables
-  pub at : (i : ℕ) → i < n → LabelsAt st i (get_or counts i 0) (get_or labels i 0)
+-- a spread tells what st states of the labels of i
+pub data LabelsAt (st : List Statement) (i : ℕ) : Spread → Type 0 where
+  none : ((a : ℕ) → Stated st (labelling i a) → ⊥) → LabelsAt st i Spread.Nothing
+  one : {a : Label} → OnlyLabel st i a.0 → LabelsAt st i (Spread.One a)
+  several : TwoLabels st i → LabelsAt st i Spread.Several
 
--- counts and labels with one more label, a of i
-unfoldable pub counts_with : List ℕ → List ℕ → ℕ → ℕ → List ℕ
-counts_with counts labels i a =
-    pick (same (get_or counts i 0) 0) (set counts i 1) (pick (same (get_or labels i 0) a) counts (set counts i 2))
+-- spreads tell it of the variables below n
+pub record LabelsStand (n : ℕ) (st : List Statement) (spreads : List Spread) : Type 0 where
+  pub size : length spreads ≡ most_variables
+  pub at : (i : ℕ) → i < n → LabelsAt st i (spread_at spreads i)
 
-unfoldable pub labels_with : List ℕ → List ℕ → ℕ → ℕ → List ℕ
-labels_with counts labels i a = pick (same (get_or counts i 0) 0) (set labels i a) labels
+-- spreads with one label more, a of i
+unfoldable pub spreads_with : List Spread → ℕ → ℕ → List Spread
+spreads_with spreads i a = set spreads i (with_labels (spread_at spreads i) (Spread.One (label a)))
 
 -- no label is stated by it
 abbrev pub NoLabelling : Statement → Type 0
@@ -46,8 +51,8 @@ unfoldable pub other_stated : List Statement → ℕ → ℕ → Bool
 other_stated st j a = some_labelling st λ y b. same j y and not (same a b)
 
 -- what is told of other labels of j, and of different labels of i and j, whatever statements are kept so
-pub record OtherTold (counts labels : List ℕ) (j a : ℕ) (r : Bool) : Type 0 where
-  pub told : (n : ℕ) (st : List Statement) → LabelsStand n st counts labels → j < n → r ≡ other_stated st j a
+pub record OtherTold (spreads : List Spread) (j a : ℕ) (r : Bool) : Type 0 where
+  pub told : (n : ℕ) (st : List Statement) → LabelsStand n st spreads → j < n → r ≡ other_stated st j a
 
-pub record DifferTold (counts labels : List ℕ) (i j : ℕ) (r : Bool) : Type 0 where
-  pub told : (n : ℕ) (st : List Statement) → LabelsStand n st counts labels → i < n → j < n → r ≡ labels_differ st i j
+pub record DifferTold (spreads : List Spread) (i j : ℕ) (r : Bool) : Type 0 where
+  pub told : (n : ℕ) (st : List Statement) → LabelsStand n st spreads → i < n → j < n → r ≡ labels_differ st i j

@@ -1,26 +1,56 @@
 -- How many different labels are stated: none, one, or several.
 use Rattle.std.specs.Prelude.{ℕ, zero, suc, get_or, Bool, true, false, not, List}
-use Rattle.fields.specs.Fields.{label}
 use Rattle.fields.specs.Tests.{same, pick}
 use Rattle.items.specs.declared.items.Statement.{Statement}
 use Rattle.rules.specs.Stated.{if_labelling}
 use Rattle.labels.specs.declared.spread.Spread.{Spread}
 
--- with one label more
-unfoldable pub with_label : Spread → ℕ → Spread
-with_label Spread.Nothing b = Spread.One (label b)
-with_label (Spread.One a) b = pick (same a.0 b) (Spread.One a) Spread.Several
-with_label Spread.Several b = Spread.Several
+-- there is a label
+abbrev pub has_any : Spread → Bool
+has_any Spread.Nothing = false
+has_any (Spread.One b) = true
+has_any Spread.Several = true
 
--- with the labels of one variable more, by their count and the first
-unfoldable pub with_labels : Spread → ℕ → ℕ → Spread
-with_labels spread count first =
-    pick (same count 0) spread (pick (same count 1) (with_label spread first) Spread.Several)
+-- there are labels that differ
+abbrev pub is_several : Spread → Bool
+is_several Spread.Nothing = false
+is_several (Spread.One b) = false
+is_several Spread.Several = true
 
--- of the labels of the variables below m
-unfoldable pub spread_below : ℕ → List ℕ → List ℕ → Spread
-spread_below zero counts labels = Spread.Nothing
-spread_below (suc m) counts labels = with_labels (spread_below m counts labels) (get_or counts m 0) (get_or labels m 0)
+-- a is the one label
+abbrev pub is_only : Spread → ℕ → Bool
+is_only Spread.Nothing a = false
+is_only (Spread.One b) a = same b.0 a
+is_only Spread.Several a = false
+
+-- there is a label other than a
+abbrev pub has_other : Spread → ℕ → Bool
+has_other Spread.Nothing a = false
+has_other (Spread.One b) a = not (same b.0 a)
+has_other Spread.Several a = true
+
+-- some label of both differ
+abbrev pub differ : Spread → Spread → Bool
+differ Spread.Nothing other = false
+differ (Spread.One a) other = has_other other a.0
+differ Spread.Several other = has_any other
+
+-- the labels of both
+unfoldable pub with_labels : Spread → Spread → Spread
+with_labels Spread.Nothing other = other
+with_labels (Spread.One a) Spread.Nothing = Spread.One a
+with_labels (Spread.One a) (Spread.One b) = pick (same a.0 b.0) (Spread.One a) Spread.Several
+with_labels (Spread.One a) Spread.Several = Spread.Several
+with_labels Spread.Several other = Spread.Several
+
+-- those of one variable
+abbrev pub spread_at : List Spread → ℕ → Spread
+spread_at spreads i = get_or spreads i Spread.Nothing
+
+-- those of the variables below m
+unfoldable pub spread_below : ℕ → List Spread → Spread
+spread_below zero spreads = Spread.Nothing
+spread_below (suc m) spreads = with_labels (spread_below m spreads) (spread_at spreads m)
 
 -- there are two different labels where q is stated too
 abbrev pub can_clash : Spread → Statement → Bool

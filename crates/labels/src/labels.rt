@@ -1,69 +1,68 @@
-// The labels stated for each variable: how many different ones (0, 1, or 2 for more), and the first.
-ghost use Rattle.std.specs.Prelude.{◌<◌, ◌≡◌};
+// The labels stated for each variable.
+ghost use Rattle.std.specs.Prelude.{◌<◌, ◌≤◌, replicate, ◌≡◌};
 ghost use Rattle.fields.specs.Limits.{most_variables};
-ghost use Rattle.labels.specs.Labels.{counts_with, labels_with, OtherTold, DifferTold};
+ghost use Rattle.labels.specs.declared.spread.Spread.{Spread};
+ghost use Rattle.labels.specs.Labels.{spreads_with, OtherTold, DifferTold};
+ghost use Rattle.labels.specs.Spreads.{spread_at, has_other, differ, spread_below};
 
-use fields::MOST_VARIABLES;
+use crate::spread::Spread;
+use fields::{Label, MOST_VARIABLES};
 
-// Notes one more stated label.
-#[tactic(auto, unfolding(crate::specs::Labels::counts_with, crate::specs::Labels::labels_with, fields::specs::Tests::pick, fields::specs::Tests::same))]
-pub fn note_label(
-    counts: &mut [u8; MOST_VARIABLES],
-    labels: &mut [u16; MOST_VARIABLES],
-    i: usize,
-    a: u16,
-)
-    requires { i < most_variables }
-    ensures counts_after { counts.new ≡ counts_with counts.old labels.old i a }
-    ensures labels_after { labels.new ≡ labels_with counts.old labels.old i a }
-{
-    if counts[i] == 0 {
-        counts[i] = 1;
-        labels[i] = a;
-        return;
-    }
-    if labels[i] == a {
-        return;
-    }
-    counts[i] = 2;
+// Of each variable: no label is stated, one, or several.
+#[derive(Drop)]
+pub struct Labels {
+    pub spreads: [Spread; MOST_VARIABLES],
 }
 
-// Whether a label other than a is stated for j.
-#[tactic(auto, using(crate::proofs::Kept::other_labels), unfolding(fields::specs::Tests::same))]
-pub fn has_other(
-    counts: &[u8; MOST_VARIABLES],
-    labels: &[u16; MOST_VARIABLES],
-    j: usize,
-    a: u16,
-) -> bool
-    requires { j < most_variables }
-    ensures { OtherTold counts.now labels.now j a result }
-{
-    if counts[j] == 0 {
-        return false;
+impl Labels {
+    // No label is stated.
+    pub fn none() -> Labels
+        ensures { result.spreads ≡ replicate most_variables Spread.Nothing }
+    {
+        Labels {
+            spreads: [Spread::Nothing; MOST_VARIABLES],
+        }
     }
-    if 1 < counts[j] {
-        return true;
-    }
-    labels[j] != a
-}
 
-// Whether two different labels are stated for i and j.
-#[tactic(auto, using(crate::proofs::Kept::differing_labels), unfolding(fields::specs::Tests::same))]
-pub fn labels_differ(
-    counts: &[u8; MOST_VARIABLES],
-    labels: &[u16; MOST_VARIABLES],
-    i: usize,
-    j: usize,
-) -> bool
-    requires { (i < most_variables) × (j < most_variables) }
-    ensures { DifferTold counts.now labels.now i j result }
-{
-    if counts[i] == 0 {
-        return false;
+    // Notes one more stated label.
+    #[tactic(auto, unfolding(crate::specs::Labels::spreads_with))]
+    pub fn note(&mut self, i: usize, a: Label)
+        requires { i < most_variables }
+        ensures { self.new.spreads ≡ spreads_with self.old.spreads i a.0 }
+    {
+        self.spreads[i] = self.spreads[i].with(Spread::One(a));
     }
-    if counts[i] == 1 {
-        return has_other(counts, labels, j, labels[i]);
+
+    // Whether a label other than a is stated for j.
+    #[tactic(auto, using(crate::proofs::Kept::by_other))]
+    pub fn has_other(&self, j: usize, a: Label) -> bool
+        requires { j < most_variables }
+        ensures value { result ≡ has_other (spread_at self.now.spreads j) a.0 }
+        ensures told { OtherTold self.now.spreads j a.0 result }
+    {
+        self.spreads[j].has_other(a)
     }
-    counts[j] != 0
+
+    // Whether two different labels are stated for i and j.
+    #[tactic(auto, using(crate::proofs::Kept::by_differ))]
+    pub fn differ(&self, i: usize, j: usize) -> bool
+        requires { (i < most_variables) × (j < most_variables) }
+        ensures value { result ≡ differ (spread_at self.now.spreads i) (spread_at self.now.spreads j) }
+        ensures told { DifferTold self.now.spreads i j result }
+    {
+        self.spreads[i].differs(self.spreads[j])
+    }
+
+    // The different labels of the first n variables.
+    #[tactic(auto, unfolding(crate::specs::Spreads::spread_below))]
+    pub fn spread(&self, n: usize) -> Spread
+        requires { n ≤ most_variables }
+        ensures { result ≡ spread_below n self.now.spreads }
+    {
+        let mut spread = Spread::Nothing;
+        for i in 0..n {
+            spread = spread.with(self.spreads[i]);
+        }
+        spread
+    }
 }

@@ -4,5 +4,5 @@
 mod labels;
 mod spread;
 
-pub use labels::{has_other, labels_differ, note_label};
-pub use spread::{Spread, can_clash, spread_of};
+pub use labels::Labels;
+pub use spread::Spread;

@@ -1,71 +1,92 @@
 // How many different labels are stated: where there are fewer than two, nothing can clash.
-ghost use Rattle.std.specs.Prelude.{◌≤◌, ◌≡◌};
-ghost use Rattle.fields.specs.Limits.{most_variables};
-ghost use Rattle.labels.specs.Spreads.{with_labels, spread_below, can_clash};
+ghost use Rattle.std.specs.Prelude.{◌≡◌};
+ghost use Rattle.labels.specs.Spreads.{has_any, is_several, is_only, has_other, differ, with_labels, can_clash};
 
-use fields::{Label, MOST_VARIABLES};
+use fields::Label;
 use items::Statement;
 
-// The different labels that are stated.
-#[derive(Clone, Copy)]
+// The different labels that are stated: of one variable, or of several.
+#[derive(Clone, Copy, Default)]
 pub enum Spread {
+    #[default]
     Nothing,
     One(Label),
     Several,
 }
 
-// The spread with the labels of one more variable.
-#[tactic(auto, unfolding(crate::specs::Spreads::with_labels, crate::specs::Spreads::with_label, fields::specs::Tests::pick, fields::specs::Tests::same))]
-fn with_labels(spread: Spread, count: u8, label: u16) -> Spread
-    ensures { result ≡ with_labels spread count label }
-{
-    if count == 0 {
-        return spread;
+impl Spread {
+    // Whether there is a label.
+    pub fn has_any(self) -> bool
+        ensures { result ≡ has_any self }
+    {
+        !matches!(self, Spread::Nothing)
     }
-    if count != 1 {
-        return Spread::Several;
+
+    // Whether there are labels that differ.
+    pub fn is_several(self) -> bool
+        ensures { result ≡ is_several self }
+    {
+        matches!(self, Spread::Several)
     }
-    match spread {
-        Spread::Nothing => Spread::One(Label(label)),
-        Spread::One(a) => {
-            if a.0 == label {
-                Spread::One(a)
-            } else {
-                Spread::Several
-            }
+
+    // Whether a is the one label.
+    #[tactic(auto, unfolding(fields::specs::Tests::same))]
+    pub fn is_only(self, a: Label) -> bool
+        ensures { result ≡ is_only self a.0 }
+    {
+        match self {
+            Spread::Nothing => false,
+            Spread::One(b) => b == a,
+            Spread::Several => false,
         }
-        Spread::Several => Spread::Several,
     }
-}
 
-// The spread of the labels of all n variables.
-#[tactic(auto, unfolding(crate::specs::Spreads::spread_below))]
-pub fn spread_of(n: usize, counts: &[u8; MOST_VARIABLES], labels: &[u16; MOST_VARIABLES]) -> Spread
-    requires { n ≤ most_variables }
-    ensures { result ≡ spread_below n counts.now labels.now }
-{
-    let mut spread = Spread::Nothing;
-    let mut i = 0;
-    while i < n {
-        spread = with_labels(spread, counts[i], labels[i]);
-        i += 1;
+    // Whether there is a label other than a.
+    #[tactic(auto, unfolding(fields::specs::Tests::same))]
+    pub fn has_other(self, a: Label) -> bool
+        ensures { result ≡ has_other self a.0 }
+    {
+        match self {
+            Spread::Nothing => false,
+            Spread::One(b) => b != a,
+            Spread::Several => true,
+        }
     }
-    spread
-}
 
-// Whether two different labels are stated where the question is stated too.
-#[tactic(auto, unfolding(fields::specs::Tests::same))]
-pub fn can_clash(spread: Spread, q: Statement) -> bool
-    ensures { result ≡ can_clash spread q }
-{
-    match spread {
-        Spread::Nothing => false,
-        Spread::One(a) => match q {
-            Statement::Ordering(_, _) => false,
-            Statement::Compatibility(_, _) => false,
-            Statement::Selection(_, _, _) => false,
-            Statement::Labelling(_, b) => a.0 != b.0,
-        },
-        Spread::Several => true,
+    // Whether some label of both differ.
+    pub fn differs(self, other: Spread) -> bool
+        ensures { result ≡ differ self other }
+    {
+        match self {
+            Spread::Nothing => false,
+            Spread::One(a) => other.has_other(a),
+            Spread::Several => other.has_any(),
+        }
+    }
+
+    // The labels of both.
+    #[tactic(auto, unfolding(crate::specs::Spreads::with_labels, fields::specs::Tests::pick, fields::specs::Tests::same))]
+    pub fn with(self, other: Spread) -> Spread
+        ensures { result ≡ with_labels self other }
+    {
+        match self {
+            Spread::Nothing => other,
+            Spread::One(a) => match other {
+                Spread::Nothing => self,
+                Spread::One(b) => if a == b { self } else { Spread::Several },
+                Spread::Several => Spread::Several,
+            },
+            Spread::Several => Spread::Several,
+        }
+    }
+
+    // Whether two different labels are stated where the question is stated too.
+    pub fn can_clash(self, q: Statement) -> bool
+        ensures { result ≡ can_clash self q }
+    {
+        match q {
+            Statement::Labelling(_, b) => self.has_other(b),
+            _ => self.is_several(),
+        }
     }
 }

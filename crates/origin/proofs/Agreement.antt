@@ -1,5 +1,6 @@
 -- For every list of bytes the crate sheet agrees with the first statement of the format: on the header, on the sheet
 -- with its refusals, and on a record's own bytes.
+use Rattle.std.specs.Prelude.{unwrap_or, Result, Ok, Err}
 use Prim.Native.Nat.{ℕ}
 use mathlib.Core.Bool.{Bool, true, false, ◌&&◌}
 use mathlib.Core.List.{List, []}
@@ -9,22 +10,20 @@ use lib.Dec.{eqb, ltb, leb}
 use Rattle.fields.specs.declared.numbers.Cursor.{Cursor}
 use Rattle.fields.specs.declared.refusals.Place.{Place}
 use Rattle.fields.specs.declared.refusals.Refusal.{Refusal}
-use Rattle.fields.specs.Fields.{cursor, then_word}
+use Rattle.fields.specs.Fields.{cursor, then_value, then_field}
 use Rattle.fields.specs.Refusals.{bad_header_map, bad_variable_count, remain, trailing_refusal}
 use Rattle.fields.specs.Tests.{less, same, has}
 use Rattle.fields.specs.Tests as Tests
 use Rattle.fields.proofs.Chains.{told}
 use Rattle.headers.specs.declared.headers.Header as H
-use Rattle.headers.specs.declared.headers.HeaderRead.{HeaderRead}
 use Rattle.headers.specs.Headers as Heads
-use Rattle.headers.specs.Headers.{then_header, header_of, header_map, variable_count, count_if}
-use Rattle.items.specs.declared.items.EndRead.{EndRead}
-use Rattle.items.specs.Items.{then_end, items_end}
-use Rattle.sheet.specs.declared.whole.SheetRead.{SheetRead}
+use Rattle.headers.specs.Headers.{header_of, header_map, variable_count, count_if}
+use Rattle.items.specs.Items.{items_end}
+use Rattle.sheet.specs.declared.whole.Accepted.{Accepted}
 use Rattle.sheet.specs.Parts as Parts
 use Rattle.sheet.specs.Sheets as Read
-use Rattle.sheet.specs.Sheets.{then_sheet, body_of, sheet_at, sheet_of}
-use Rattle.sheet.proofs.Accepted.{sheet_spans}
+use Rattle.sheet.specs.Sheets.{body_of, sheet_at, sheet_of}
+use Rattle.sheet.proofs.Accepting.{sheet_spans}
 use Rattle.origin.specs.Sheets.{pick, byte_at, Got, bad, Header, read_header, record_part, question_part}
 use Rattle.origin.specs.Sheets.{records_from, read_sheet, record_bytes_from, record_bytes}
 use Rattle.origin.specs.Converted.{as_header, as_got, bad_got}
@@ -34,8 +33,8 @@ use Rattle.origin.proofs.Runs.{questions_agree, records_agree, part_agrees}
 
 -- the header from its question count on, and whole
 questions_part : (s : List ℕ) (m r : ℕ) (c : Cursor) → Agrees as_header (question_part s m r c.at)
-    (then_word (count_if (has 4 m) s c) HeaderRead.Refused λ questions first.
-    HeaderRead.Is (Heads.header m (byte_at s 1) r questions first))
+    (then_field (count_if (has 4 m) s c) Err λ questions first.
+    Ok (Heads.header m (byte_at s 1) r (unwrap_or questions 0) first))
 unfolding question_part has same
 questions_part s m r c = count_agrees (λ x. x) s c _ _ _ agree agree agree agree
 
@@ -51,17 +50,17 @@ pub header_agrees : (s : List ℕ) → read_header s ≡ as_header (header_of s)
 header_agrees s = (header_part s).is
 
 -- what is told of a sheet that is read so
-abbrev whole : List ℕ → SheetRead → Got
-whole s r = as_got r (then_sheet r (λ q. Read.sheet 0 [] []) (sheet_at s))
+abbrev whole : List ℕ → Result Accepted Refusal → Got
+whole s r = as_got r (then_value r (λ q. Read.sheet 0 [] []) (sheet_at s))
 
-whole_end : (s : List ℕ) (r : EndRead) (f : Cursor → Got) (g : Cursor → SheetRead)
+whole_end : (s : List ℕ) (r : Result Cursor Refusal) (f : Cursor → Got) (g : Cursor → Result Accepted Refusal)
     → ((c : Cursor) → f c ≡ whole s (g c))
-    → then_end r bad_got f ≡ whole s (then_end r SheetRead.Refused g)
-whole_end s (EndRead.At c) f g p = p c
-whole_end s (EndRead.Refused r) f g p = refl
+    → then_value r bad_got f ≡ whole s (then_value r Err g)
+whole_end s (Ok c) f g p = p c
+whole_end s (Err r) f g p = refl
 
-whole_pick : (s : List ℕ) (b : Bool) (r : Refusal) (answer : SheetRead)
-    → Tests.pick b (bad_got r) (whole s answer) ≡ whole s (Tests.pick b (SheetRead.Refused r) answer)
+whole_pick : (s : List ℕ) (b : Bool) (r : Refusal) (answer : Result Accepted Refusal)
+    → Tests.pick b (bad_got r) (whole s answer) ≡ whole s (Tests.pick b (Err r) answer)
 unfolding Tests.pick
 whole_pick s true r answer = refl
 whole_pick s false r answer = refl
@@ -74,7 +73,7 @@ body_agrees s h =
     ∙ whole_end s (items_end h.records Place.Record s h.variables h.first) _ _ λ asked.
     questions_agree s h.variables h.questions asked _ []
     ∙ whole_end s (items_end h.questions Place.Question s h.variables asked) _ _ λ end.
-    whole_pick s (remain s end) (trailing_refusal end) (SheetRead.Accepted h asked)
+    whole_pick s (remain s end) (trailing_refusal end) (Ok (Read.accepted h asked))
 
 pub sheet_agrees : (s : List ℕ) → read_sheet s ≡ as_got (Read.read_sheet s) (sheet_of s)
 unfolding read_sheet Read.read_sheet sheet_of
@@ -85,9 +84,9 @@ sheet_agrees s = ap behind (header_agrees s) ∙ go (header_of s)
         if (leb 1 h.number) (bad h.number h.offset)
         (records_from h.records h.questions s h.n h.next [])
 
-    go : (r : HeaderRead) → behind (as_header r) ≡ whole s (then_header r SheetRead.Refused (body_of s))
-    go (HeaderRead.Is h) = body_agrees s h
-    go (HeaderRead.Refused r) = ap (λ (b : Bool). if b (bad_got r) (records_from 0 0 s 0 0 [])) (numbered r.fault)
+    go : (r : Result H.Header Refusal) → behind (as_header r) ≡ whole s (then_value r Err (body_of s))
+    go (Ok h) = body_agrees s h
+    go (Err r) = ap (λ (b : Bool). if b (bad_got r) (records_from 0 0 s 0 0 [])) (numbered r.fault)
 
 pub record_agrees : (s : List ℕ) (k : ℕ) → record_bytes s k ≡ Parts.record_bytes s k
 unfolding record_bytes Parts.record_bytes Parts.part_at less Tests.pick
@@ -97,15 +96,15 @@ record_agrees s k = ap₂ part (sheet_agrees s) (header_agrees s) ∙ go (Read.r
     part g h = pick (eqb g.number 0 && ltb k h.records) (record_bytes_from k s h.n h.next) []
 
     found : (h : H.Header) (end : Cursor)
-        → items_end h.records Place.Record s h.variables h.first ≡ EndRead.At end
+        → items_end h.records Place.Record s h.variables h.first ≡ Ok end
         → (b : Bool) → ltb k h.records ≡ b
         → pick b (record_bytes_from k s h.variables h.first.at) [] ≡ Tests.pick b (Parts.part_at s h k) []
     found h end e true l = part_agrees s h.variables k h.records h.first end (ltb-true k h.records l) e
     found h end e false l = refl
 
-    go : (r : SheetRead) → Read.read_sheet s ≡ r → part (as_got r (sheet_of s)) (as_header (header_of s))
-        ≡ then_sheet r (λ q. []) λ h asked. Tests.pick (less k h.records) (Parts.part_at s h k) []
-    go (SheetRead.Accepted h asked) e =
-        let a = told (sheet_spans s) e in
-        rw a.header_is (found h asked a.records_end (ltb k h.records) refl)
-    go (SheetRead.Refused r) e = rw (not_zero r.fault) refl
+    go : (r : Result Accepted Refusal) → Read.read_sheet s ≡ r → part (as_got r (sheet_of s)) (as_header (header_of s))
+        ≡ then_value r (λ q. []) λ a. Tests.pick (less k a.header.records) (Parts.part_at s a.header k) []
+    go (Ok a) e =
+        let read = told (sheet_spans s) e in
+        rw read.header_is (found a.header a.asked read.records_end (ltb k a.header.records) refl)
+    go (Err r) e = rw (not_zero r.fault) refl

@@ -1,4 +1,5 @@
 -- One test or one field off, of both: what agrees in each case agrees with the test or the field.
+use Rattle.std.specs.Prelude.{Option, Some, None, Err}
 use Prim.Native.Nat.{ℕ, ◌+◌}
 use mathlib.Core.Bool.{Bool, true, false, not}
 use mathlib.Core.List.{List}
@@ -7,13 +8,10 @@ use lib.Dec.{ltb}
 use lib.ListN.{get_or}
 use native.Mathlib.Nat.{mul_comm}
 use native.Mathlib.Numerals.{add-one}
-use Rattle.fields.specs.declared.fields.VariableRead.{VariableRead}
-use Rattle.fields.specs.declared.fields.WordRead.{WordRead}
 use Rattle.fields.specs.declared.numbers.Cursor.{Cursor}
 use Rattle.fields.specs.declared.numbers.Variable.{Variable}
 use Rattle.fields.specs.declared.refusals.Refusal.{Refusal}
-use Rattle.fields.specs.Fields.{cursor, variable, variable_is, word_is, word, judged, byte_field, word_field, variable_field}
-use Rattle.fields.specs.Fields.{then_byte, then_word, then_variable}
+use Rattle.fields.specs.Fields.{Read, cursor, variable, found, present, then_field, field_if, word, judged, byte_field, word_field, variable_field}
 use Rattle.fields.specs.Refusals.{cut, ends, bad_count, count_refusal, bad_variable, variable_refusal}
 use Rattle.fields.specs.Tests.{pick, less}
 use Rattle.headers.specs.Headers.{count_field, count_if}
@@ -60,47 +58,47 @@ module _ {A B L : Type 0} {f : B → A} (h : L → A) (s : List ℕ) (c : Cursor
       → Agrees f (h y) (refused r)
       → Agrees f (h z) (next (byte_at s c.at) (cursor (c.at + 1)))
       → Agrees f (h (if (is_cut s c.at 1) x (if (bad (byte_at s c.at)) y z)))
-      (then_byte (judged bad r (byte_field s c)) refused next)
+      (then_field (judged bad r (byte_field s c)) refused next)
   unfolding byte_field ends less
   judged_agrees bad r next p q g =
-      choice h (λ b. then_byte (judged bad r b) refused next) _ p
-      (choice h (λ b. then_byte b refused next) _ q g)
+      choice h (λ b. then_field (judged bad r b) refused next) _ p
+      (choice h (λ b. then_field b refused next) _ q g)
 
   pub variable_agrees : (n : ℕ) (next : Variable → Cursor → B) {x y z : L}
       → Agrees f (h x) (refused (cut s))
       → Agrees f (h y) (next (variable (byte_at s c.at)) (cursor (c.at + 1)))
       → Agrees f (h z) (refused (variable_refusal c))
       → Agrees f (h (if (is_cut s c.at 1) x (if (ltb (byte_at s c.at) n) y z)))
-      (then_variable (variable_field s n c) refused next)
+      (then_field (variable_field s n c) refused next)
   unfolding variable_field bad_variable byte_field ends less
   variable_agrees n next p g q =
-      choice h (λ b. then_variable (then_byte b VariableRead.Refused found) refused next) _ p
-      (choice_not h (λ v. then_variable v refused next) (less (byte_at s c.at) n) g q)
+      choice h (λ b. then_field (then_field b Err judge) refused next) _ p
+      (choice_not h (λ v. then_field v refused next) (less (byte_at s c.at) n) g q)
     where
-      found : ℕ → Cursor → VariableRead
-      found i next = pick (bad_variable n i) (VariableRead.Refused (variable_refusal c)) (variable_is i next)
+      judge : ℕ → Cursor → Read Variable
+      judge i next = pick (bad_variable n i) (Err (variable_refusal c)) (found (variable i) next)
 
   pub word_agrees : (next : ℕ → Cursor → B) {x y : L}
       → Agrees f (h x) (refused (cut s))
       → Agrees f (h y) (next (word_at s c.at) (cursor (c.at + 2)))
-      → Agrees f (h (if (is_cut s c.at 2) x y)) (then_word (word_field s c) refused next)
+      → Agrees f (h (if (is_cut s c.at 2) x y)) (then_field (word_field s c) refused next)
   unfolding word_field ends less
-  word_agrees next p g = rw (word_is_lem s c.at) (choice h (λ w. then_word w refused next) _ p g)
+  word_agrees next p g = rw (word_is_lem s c.at) (choice h (λ w. then_field w refused next) _ p g)
 
-  -- a count, 0 where its bit is missing
-  pub count_agrees : (stands : Bool) (next : ℕ → Cursor → B) {o x y z : L}
-      → Agrees f (h o) (next 0 c)
+  -- a count, where its bit stands
+  pub count_agrees : (stands : Bool) (next : Option ℕ → Cursor → B) {o x y z : L}
+      → Agrees f (h o) (next None c)
       → Agrees f (h x) (refused (cut s))
       → Agrees f (h y) (refused (count_refusal c))
-      → Agrees f (h z) (next (word_at s c.at) (cursor (c.at + 2)))
+      → Agrees f (h z) (next (Some (word_at s c.at)) (cursor (c.at + 2)))
       → Agrees f (h (if (not stands) o (if (is_cut s c.at 2) x (if (ltb 1024 (word_at s c.at)) y z))))
-      (then_word (count_if stands s c) refused next)
-  unfolding count_if count_field bad_count word_field ends less
+      (then_field (count_if stands s c) refused next)
+  unfolding count_if field_if count_field bad_count word_field ends less
   count_agrees stands next none p q g =
-      not_choice h (λ w. then_word w refused next) stands none
+      not_choice h (λ w. then_field w refused next) stands none
       (rw (word_is_lem s c.at)
-      (choice h (λ w. then_word (then_word w WordRead.Refused found) refused next) _ p
-      (choice h (λ w. then_word w refused next) (less 1024 (word_at s c.at)) q g)))
+      (choice h (λ w. then_field (present (then_field w Err judge)) refused next) _ p
+      (choice h (λ w. then_field (present w) refused next) (less 1024 (word_at s c.at)) q g)))
     where
-      found : ℕ → Cursor → WordRead
-      found count next = pick (bad_count count) (WordRead.Refused (count_refusal c)) (word_is count next)
+      judge : ℕ → Cursor → Read ℕ
+      judge count next = pick (bad_count count) (Err (count_refusal c)) (found count next)

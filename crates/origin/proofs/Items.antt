@@ -1,4 +1,5 @@
 -- One item: its map, its subject, and the steps by rising bit.
+use Rattle.std.specs.Prelude.{Err}
 use Prim.Native.Nat.{ℕ, suc, ◌+◌}
 use mathlib.Core.List.{List, [], append_assoc}
 use mathlib.Core.Path.{◌≡◌, refl}
@@ -7,10 +8,9 @@ use native.Mathlib.Numerals.{add-one}
 use native.Mathlib.Omega.{arith}
 use Rattle.fields.specs.declared.numbers.Cursor.{Cursor}
 use Rattle.fields.specs.declared.refusals.Place.{Place}
-use Rattle.fields.specs.Fields.{cursor, variable, then_variable, variable_field}
+use Rattle.fields.specs.Fields.{cursor, variable, then_field, variable_field}
 use Rattle.fields.specs.Refusals.{bad_item_map, several_bits}
 use Rattle.fields.specs.Tests.{less, same, has}
-use Rattle.items.specs.declared.items.ItemRead.{ItemRead}
 use Rattle.items.specs.declared.items.Statement as S
 use Rattle.items.specs.Items as Read
 use Rattle.items.specs.Statements.{statements_of}
@@ -52,7 +52,7 @@ module _ (s : List ℕ) (n m i : ℕ) where
       λ j c₁.
       var_agrees s n i _ from_child passes_child c₁ (bit 1 m) 2 (S.Statement.Compatibility (variable i)) (λ j. refl) _
       λ partner c₂.
-      child_agrees s n i _ from_label passes_label c₂ (bit 2 m) _ λ f child c₃.
+      child_agrees s n i _ from_label passes_label c₂ (bit 2 m) _ λ out c₃.
       label_agrees s n i _ (λ x. x) (λ q. refl) c₃ (bit 3 m) _ λ a c₄.
       record { is = simp (append_assoc, map-append) }
 
@@ -64,7 +64,7 @@ module _ (s : List ℕ) (n : ℕ) (c : Cursor) where
   subject_agrees : (m : ℕ) → let o = suc c.at in Agrees as_item
       (if (is_cut s o 1) (cut_item s)
       (if (ltb (byte_at s o) n) (from_target s n m (byte_at s o) (item 0 0 [] (c.at + 2))) (item 6 o [] 0)))
-      (then_variable (variable_field s n (cursor (c.at + 1))) ItemRead.Refused (Read.fields_at s n m))
+      (then_field (variable_field s n (cursor (c.at + 1))) Err (Read.fields_at s n m))
   subject_agrees m =
       let o = suc c.at in
       rw (add-one c.at)

@@ -1,18 +1,23 @@
 -- One step of an item: a bit of its map agrees with the fields that it stands for, and a refusal is passed on.
+use Rattle.std.specs.Prelude.{Option, Some, None, option_map, option_to_list, Err}
 use Prim.Native.Nat.{ℕ, ◌+◌}
 use mathlib.Core.Bool.{Bool, true, false}
 use mathlib.Core.List.{List, [], ◌∷◌, ◌++◌, map, append-nil}
 use mathlib.Core.Path.{◌≡◌, refl, ap}
 use native.Mathlib.Omega.{arith}
 use Rattle.fields.specs.declared.numbers.Cursor.{Cursor}
+use Rattle.fields.specs.declared.numbers.Label.{Label}
 use Rattle.fields.specs.declared.numbers.Variable.{Variable}
 use Rattle.fields.specs.declared.refusals.Refusal.{Refusal}
-use Rattle.fields.specs.Fields.{cursor, variable, then_variable, then_word, word_if, variable_if}
+use Rattle.fields.specs.Fields.{cursor, variable, label, found, then_field, word_field, variable_field, field_if}
 use Rattle.fields.specs.Refusals.{cut, variable_refusal}
 use Rattle.fields.specs.Tests.{pick}
-use Rattle.items.specs.declared.items.ItemRead.{ItemRead}
+use Rattle.fields.specs.Fields.{Read as Reading}
+use Rattle.items.specs.declared.items.Item as I
 use Rattle.items.specs.declared.items.Statement as S
-use Rattle.items.specs.Statements.{stated_if}
+use Rattle.fields.proofs.Chains.{then_on}
+use Rattle.items.specs.declared.items.Edge.{Edge}
+use Rattle.items.specs.Items.{edge, edge_field, label_field}
 use Rattle.origin.specs.Sheets.{Statement, statement, add_s, Item, item, byte_at, word_at}
 use Rattle.origin.specs.Sheets.{var_step, child_step, label_step}
 use Rattle.origin.specs.Converted.{as_statement, bad_item, as_item}
@@ -36,9 +41,13 @@ module _ (s : List ℕ) (stands : Bool) (i : ℕ) where
   unfolding label_step
   label_passes q = rw (numbered q.fault, label_step) refl
 
--- what was stated so far, and what a bit adds to it
-abbrev pub more : List Statement → Bool → S.Statement → List Statement
-more st stands x = st ++ map as_statement (stated_if stands x)
+-- a selection, of a feature and a child together
+abbrev pub selected : Variable → Edge → S.Statement
+selected i out = S.Statement.Selection i out.feature out.child
+
+-- what was stated so far, and what a field adds to it where it is there
+abbrev pub more : List Statement → Option S.Statement → List Statement
+more st x = st ++ map as_statement (option_to_list x)
 
 three : (o : ℕ) → o + 3 ≡ o + 2 + 1
 three o = omega arith
@@ -49,43 +58,57 @@ added (y ∷ st) x = ap (λ (l : List Statement). y ∷ l) (added st x)
 
 -- k is what follows the step, up to the end of the item
 module _ (s : List ℕ) (n i : ℕ) (st : List Statement) (k : Item → Item) (passes : Passes k) (c : Cursor) where
-  refused : (q : Refusal) → Agrees as_item (k (bad_item q)) (ItemRead.Refused q)
+  refused : (q : Refusal) → Agrees as_item (k (bad_item q)) (Err q)
   refused q = record { is = passes q }
 
   pub var_agrees : (stands : Bool) (kind : ℕ) (make : Variable → S.Statement)
-      → ((j : Variable) → statement kind i j.0 0 ≡ as_statement (make j)) → (next : Variable → Cursor → ItemRead)
-      → ((j : Variable) (c' : Cursor) → Agrees as_item (k (item 0 0 (more st stands (make j)) c'.at)) (next j c'))
+      → ((j : Variable) → statement kind i j.0 0 ≡ as_statement (make j))
+      → (next : Option Variable → Cursor → Reading I.Item)
+      → ((j : Option Variable) (c' : Cursor) → Agrees as_item (k (item 0 0 (more st (option_map make j)) c'.at)) (next j c'))
       → Agrees as_item (k (var_step s n stands kind i (item 0 0 st c.at)))
-      (then_variable (variable_if stands s n c) ItemRead.Refused next)
-  unfolding var_step variable_if pick
+      (then_field (field_if stands (variable_field s n c) c) Err next)
+  unfolding var_step field_if pick
   var_agrees true kind make e next g =
-      variable_agrees k s c _ n next (refused (cut s))
-      (rw (added st, e (variable (byte_at s c.at))) (g (variable (byte_at s c.at)) (cursor (c.at + 1))))
-      (refused (variable_refusal c))
-  var_agrees false kind make e next g = rw (append-nil st) at (g (variable 0) c)
+      rw (then_on (variable_field s n c) (λ v c'. found (Some v) c') Err next)
+      (variable_agrees k s c _ n _ (refused (cut s))
+      (rw (added st, e (variable (byte_at s c.at))) (g (Some (variable (byte_at s c.at))) (cursor (c.at + 1))))
+      (refused (variable_refusal c)))
+  var_agrees false kind make e next g = rw (append-nil st) at (g None c)
 
-  pub child_agrees : (stands : Bool) (next : ℕ → Variable → Cursor → ItemRead)
-      → ((f : ℕ) (j : Variable) (c' : Cursor)
-      → Agrees as_item (k (item 0 0 (more st stands (S.Statement.Selection (variable i) (record { 0 = f }) j)) c'.at))
-      (next f j c'))
+  pub child_agrees : (stands : Bool) (next : Option Edge → Cursor → Reading I.Item)
+      → ((out : Option Edge) (c' : Cursor) → Agrees as_item (k (item 0 0 (more st (option_map (selected (variable i)) out)) c'.at))
+      (next out c'))
       → Agrees as_item (k (child_step s n stands i (item 0 0 st c.at)))
-      (then_word (word_if stands s c) ItemRead.Refused λ f c'.
-      then_variable (variable_if stands s n c') ItemRead.Refused (next f))
-  unfolding child_step word_if variable_if pick
+      (then_field (field_if stands (edge_field s n c) c) Err next)
+  unfolding child_step field_if edge_field pick
   child_agrees true next g =
-      word_agrees k s c _ _ (refused (cut s))
-      (variable_agrees k s (cursor (c.at + 2)) _ n (next (word_at s c.at)) (refused (cut s))
-      (rw (added st, three) (g (word_at s c.at) (variable (byte_at s (c.at + 2))) (cursor (c.at + 2 + 1))))
-      (refused (variable_refusal (cursor (c.at + 2)))))
-  child_agrees false next g = rw (append-nil st) at (g 0 (variable 0) c)
+      rw (
+        then_on (edge_field s n c) (λ v c'. found (Some v) c') Err next,
+        then_on (word_field s c) (edge_on n) Err (λ v c'. next (Some v) c'),
+      )
+      (word_agrees k s c _ _ (refused (cut s))
+      (rw (then_on (variable_field s n (cursor (c.at + 2))) (λ child c''. found (edge (word_at s c.at) child) c'') Err
+      (λ v c'. next (Some v) c'))
+      (variable_agrees k s (cursor (c.at + 2)) _ n _ (refused (cut s))
+      (rw (added st, three) (g (Some (edge (word_at s c.at) (variable (byte_at s (c.at + 2))))) (cursor (c.at + 2 + 1))))
+      (refused (variable_refusal (cursor (c.at + 2)))))))
+    where
+      edge_on : ℕ → ℕ → Cursor → Reading Edge
+      edge_on n f c' = then_field (variable_field s n c') Err λ child c''. found (edge f child) c''
+  child_agrees false next g = rw (append-nil st) at (g None c)
 
-  pub label_agrees : (stands : Bool) (next : ℕ → Cursor → ItemRead)
-      → ((a : ℕ) (c' : Cursor)
-      → Agrees as_item (k (item 0 0 (more st stands (S.Statement.Labelling (variable i) (record { 0 = a }))) c'.at))
+  pub label_agrees : (stands : Bool) (next : Option Label → Cursor → Reading I.Item)
+      → ((a : Option Label) (c' : Cursor)
+      → Agrees as_item (k (item 0 0 (more st (option_map (S.Statement.Labelling (variable i)) a)) c'.at))
       (next a c'))
       → Agrees as_item (k (label_step s stands i (item 0 0 st c.at)))
-      (then_word (word_if stands s c) ItemRead.Refused next)
-  unfolding label_step word_if pick
+      (then_field (field_if stands (label_field s c) c) Err next)
+  unfolding label_step field_if label_field pick
   label_agrees true next g =
-      word_agrees k s c _ next (refused (cut s)) (rw (added st) (g (word_at s c.at) (cursor (c.at + 2))))
-  label_agrees false next g = rw (append-nil st) at (g 0 c)
+      rw (
+        then_on (label_field s c) (λ v c'. found (Some v) c') Err next,
+        then_on (word_field s c) (λ a c'. found (label a) c') Err (λ v c'. next (Some v) c'),
+      )
+      (word_agrees k s c _ _ (refused (cut s))
+      (rw (added st) (g (Some (label (word_at s c.at))) (cursor (c.at + 2)))))
+  label_agrees false next g = rw (append-nil st) at (g None c)

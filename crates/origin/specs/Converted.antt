@@ -1,21 +1,22 @@
 -- What the crate sheet answers, in the terms of the first statement of the format.
-use Rattle.std.specs.Prelude.{Bool, true, false, [], map}
+use Rattle.std.specs.Prelude.{Bool, true, false, [], map, Result, Ok, Err}
 use Rattle.fields.specs.declared.refusals.Place.{Place}
 use Rattle.fields.specs.declared.refusals.Refusal.{Refusal}
+use Rattle.fields.specs.Fields.{Read as Reading}
 use Rattle.fields.specs.Refusals.{number_of}
-use Rattle.headers.specs.declared.headers.HeaderRead.{HeaderRead}
-use Rattle.items.specs.declared.items.ItemRead.{ItemRead}
+use Rattle.headers.specs.declared.headers.Header as H
+use Rattle.items.specs.declared.items.Item as I
 use Rattle.items.specs.declared.items.Statement as S
 use Rattle.items.specs.Statements.{statements_of}
 use Rattle.items.specs.Questions.{Query, holds}
-use Rattle.sheet.specs.declared.whole.SheetRead.{SheetRead}
+use Rattle.sheet.specs.declared.whole.Accepted.{Accepted}
 use Rattle.sheet.specs.Sheets as Read
 use Rattle.origin.specs.Sheets.{Statement, statement, Item, item, Sheet, sheet, Got, got, bad}
 use Rattle.origin.specs.Sheets.{Header, header, bad_header}
 
-abbrev pub as_header : HeaderRead → Header
-as_header (HeaderRead.Is h) = header 0 0 h.variables h.records h.questions h.first.at
-as_header (HeaderRead.Refused r) = bad_header (number_of r.fault) r.at
+abbrev pub as_header : Result H.Header Refusal → Header
+as_header (Ok h) = header 0 0 h.variables h.records h.questions h.first.at
+as_header (Err r) = bad_header (number_of r.fault) r.at
 
 abbrev pub as_statement : S.Statement → Statement
 as_statement (S.Statement.Ordering i j) = statement 1 i.0 j.0 0
@@ -30,9 +31,9 @@ as_question (holds x) = as_statement x
 abbrev pub bad_item : Refusal → Item
 bad_item r = item (number_of r.fault) r.at [] 0
 
-abbrev pub as_item : ItemRead → Item
-as_item (ItemRead.Is x next) = item 0 0 (map as_statement (statements_of x)) next.at
-as_item (ItemRead.Refused r) = bad_item r
+abbrev pub as_item : Reading I.Item → Item
+as_item (Ok f) = item 0 0 (map as_statement (statements_of f.value)) f.next.at
+as_item (Err r) = bad_item r
 
 -- whether a place is a question's
 abbrev pub asks : Place → Bool
@@ -46,6 +47,6 @@ bad_got r = bad (number_of r.fault) r.at
 abbrev pub as_sheet : Read.Sheet → Sheet
 as_sheet x = sheet x.n (map as_statement x.stated) (map as_question x.asked)
 
-abbrev pub as_got : SheetRead → Read.Sheet → Got
-as_got (SheetRead.Accepted h asked) x = got 0 0 (as_sheet x)
-as_got (SheetRead.Refused r) x = bad_got r
+abbrev pub as_got : Result Accepted Refusal → Read.Sheet → Got
+as_got (Ok a) x = got 0 0 (as_sheet x)
+as_got (Err r) x = bad_got r

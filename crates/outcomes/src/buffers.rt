@@ -1,11 +1,10 @@
 // All rows of the refusals in their order: the sheet, then the lent buffers against it.
-ghost use Rattle.std.specs.Prelude.{◌||◌, ◌≡◌};
+ghost use Rattle.std.specs.Prelude.{◌||◌, ◌≡◌, Err};
 ghost use Rattle.fields.specs.Refusals.{refusal, short_table};
 ghost use Rattle.fields.specs.Tests.{less};
-ghost use Rattle.sheet.specs.declared.whole.SheetRead.{SheetRead};
 ghost use Rattle.outcomes.specs.Judged.{lent_to, judged};
 
-use sheet::{Cursor, Fault, Header, Refusal, SheetRead, read_sheet};
+use sheet::{Accepted, Fault, Refusal, read_sheet};
 
 // Whether fewer bytes are lent than are needed.
 #[tactic(auto, unfolding(fields::specs::Tests::less))]
@@ -27,26 +26,23 @@ fn tables_short(size: usize, facts: usize, work: usize) -> bool
 }
 
 // A refusal of a lent buffer.
-fn refuse(fault: Fault) -> SheetRead
-    ensures { result ≡ SheetRead.Refused (refusal fault 0) }
+fn refuse(fault: Fault) -> Result<Accepted, Refusal>
+    ensures { result ≡ Err (refusal fault 0) }
 {
-    SheetRead::Refused(Refusal {
-        fault: fault,
-        at: 0,
-    })
+    Err(Refusal { fault, at: 0 })
 }
 
 // Rows 8 and 9.
 #[tactic(auto, unfolding(crate::specs::Judged::lent_to, fields::specs::Refusals::short_replies, fields::specs::Tests::pick))]
 fn judge_buffers(
-    header: Header,
-    asked: Cursor,
+    accepted: Accepted,
     facts: usize,
     work: usize,
     replies: usize,
-) -> SheetRead
-    ensures { result ≡ lent_to header asked facts work replies }
+) -> Result<Accepted, Refusal>
+    ensures { result ≡ lent_to accepted facts work replies }
 {
+    let header = accepted.header;
     let few_cells = tables_short(header.table_size(), facts, work);
     let few_replies = is_short(header.reply_count(), replies);
     if few_cells {
@@ -55,16 +51,14 @@ fn judge_buffers(
     if few_replies {
         return refuse(Fault::ShortReplies);
     }
-    SheetRead::Accepted(header, asked)
+    Ok(accepted)
 }
 
 // Accepts a sheet with the lengths of the lent buffers, or refuses them.
 #[tactic(auto, unfolding(crate::specs::Judged::judged))]
-pub fn judge(sheet: &[u8], facts: usize, work: usize, replies: usize) -> SheetRead
+pub fn judge(sheet: &[u8], facts: usize, work: usize, replies: usize) -> Result<Accepted, Refusal>
     ensures { result ≡ judged sheet.now facts work replies }
 {
-    match read_sheet(sheet) {
-        SheetRead::Accepted(header, asked) => judge_buffers(header, asked, facts, work, replies),
-        SheetRead::Refused(refusal) => SheetRead::Refused(refusal),
-    }
+    let accepted = read_sheet(sheet)?;
+    judge_buffers(accepted, facts, work, replies)
 }

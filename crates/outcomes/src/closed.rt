@@ -6,19 +6,20 @@ ghost use Rattle.outcomes.specs.Closed.{outcome_by};
 
 use crate::outcomes::Outcome;
 use answers::count_facts;
-use rules::Verdict;
+use rules::{Kind, Verdict};
+use table::Table;
 
 // How many facts the table has of each kind, or the pair that clashes in it.
 #[tactic(auto, using(crate::proofs::Counted::few_facts))]
-pub fn outcome_of(verdict: Verdict, closed: &[u8], n: usize) -> Outcome
-    requires { Lent n closed.now }
-    ensures { result ≡ outcome_by n (facts n closed.now) verdict }
+pub fn outcome_of(verdict: Verdict, closed: &Table<'_>) -> Outcome
+    requires { Lent closed.now.n closed.now.cells.now }
+    ensures { result ≡ outcome_by closed.now.n (facts closed.now.n closed.now.cells.now) verdict }
 {
     match verdict {
         Verdict::Clash(i, j) => Outcome::Clash(i, j),
         Verdict::Consistent => {
-            let orderings = count_facts(closed, n, false);
-            let compatibilities = count_facts(closed, n, true);
+            let orderings = count_facts(closed, Kind::Ordered);
+            let compatibilities = count_facts(closed, Kind::Compatible);
             Outcome::Consistent(orderings as u16, compatibilities as u16)
         }
     }

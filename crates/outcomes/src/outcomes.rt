@@ -31,7 +31,7 @@ impl Outcome {
         match self {
             Outcome::Consistent(orderings, compatibilities) => pack(0, orderings, compatibilities),
             Outcome::Clash(i, j) => pack(1, i.0 as u16, j.0 as u16),
-            Outcome::Refused(fault, at) => pack(2, fault.number() as u16, at),
+            Outcome::Refused(fault, at) => pack(2, u16::from(u8::from(fault)), at),
         }
     }
 }

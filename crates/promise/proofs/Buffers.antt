@@ -19,7 +19,7 @@ module _ {b facts work replies facts' work' replies' : List ℕ} {r : ℕ}
   -- behind the table of its size the first buffer is as it was
   pub beyond_table : IsAccepted (read returned)
       → drop (size_for (sheet_of b).n) facts' ≡ drop (size_for (sheet_of b).n) facts
-  beyond_table (h, (asked, e)) =
+  beyond_table (a, e) =
       rw (returned.buffers.facts_are, e)
       (drop-append-drop _ facts _ _ (omega (arith, table_length (sheet_of b).n)) refl)
 
@@ -29,12 +29,12 @@ module _ {b facts work replies facts' work' replies' : List ℕ} {r : ℕ}
   unfolding where_consistent
   second_cleared kind =
       by_case returned (λ q e k. absurd (omega arith))
-      (λ h asked e is k. rw (returned.buffers.work_is, e, is) (simp length-replicate))
-      (λ h asked i j e is k. absurd (omega arith))
+      (λ a e is k. rw (returned.buffers.work_is, e, is) (simp length-replicate))
+      (λ a i j e is k. absurd (omega arith))
 
   -- on a clash it is as it was, and so is the reply buffer
   pub clash_leaves : kind_in r ≡ 1 → (work' ≡ work) × (replies' ≡ replies)
   unfolding where_consistent
   clash_leaves kind =
-      by_case returned (λ q e k. absurd (omega arith)) (λ h asked e is k. absurd (omega arith))
-      (λ h asked i j e is k. (rw (returned.buffers.work_is, e, is) refl, rw (returned.buffers.replies_are, e, is) refl))
+      by_case returned (λ q e k. absurd (omega arith)) (λ a e is k. absurd (omega arith))
+      (λ a i j e is k. (rw (returned.buffers.work_is, e, is) refl, rw (returned.buffers.replies_are, e, is) refl))

@@ -1,5 +1,6 @@
 -- The verdict clash is given exactly where F5 applies to a pair.
-use mathlib.Core.Path.{◌≡◌, refl}
+use mathlib.Core.Path.{◌≡◌, refl, ap₂}
+use Rattle.std.specs.Prelude.{Option, None, Some}
 use Rattle.fields.specs.declared.numbers.Variable.{Variable}
 use Rattle.sheet.specs.Sheets.{Sheet}
 use Rattle.rules.specs.declared.clashes.Clash.{Clash}
@@ -10,20 +11,25 @@ use Rattle.rules.proofs.Clashing.{clash_least, clash_nowhere}
 use Rattle.rules.proofs.Logic.{contrary}
 use Rattle.promise.specs.Promise.{F5Applies}
 
-pub nowhere_by : (c : Clash) → verdict_by c ≡ Verdict.Consistent → c ≡ Clash.Nowhere
-nowhere_by Clash.Nowhere e = refl
-nowhere_by (Clash.Between i j) e = cc
+pub nowhere_by : (c : Option Clash) → verdict_by c ≡ Verdict.Consistent → c ≡ None
+nowhere_by None e = refl
+nowhere_by (Some pair) e = cc
 
-between_by : (c : Clash) (i j : Variable) → verdict_by c ≡ Verdict.Clash i j → c ≡ Clash.Between i j
-between_by Clash.Nowhere i j e = cc
-between_by (Clash.Between x y) i j e = let same_row : x ≡ i = cc in let same_column : y ≡ j = cc in cc
+between_by : (c : Option Clash) (i j : Variable) → verdict_by c ≡ Verdict.Clash i j
+    → c ≡ Some (record { first = i; second = j })
+between_by None i j e = cc
+between_by (Some c) i j e =
+    let same_row : c.first ≡ i = cc in
+    let same_column : c.second ≡ j = cc in
+    ap₂ (λ x y. Some (record { first = x; second = y })) same_row same_column
 
 module _ (s : Sheet) where
-  pub nowhere : verdict_of s ≡ Verdict.Consistent → clash_of s.stated s.n ≡ Clash.Nowhere
+  pub nowhere : verdict_of s ≡ Verdict.Consistent → clash_of s.stated s.n ≡ None
   unfolding verdict_of
   nowhere e = nowhere_by _ e
 
-  pub between : (i j : Variable) → verdict_of s ≡ Verdict.Clash i j → clash_of s.stated s.n ≡ Clash.Between i j
+  pub between : (i j : Variable) → verdict_of s ≡ Verdict.Clash i j
+      → clash_of s.stated s.n ≡ Some (record { first = i; second = j })
   unfolding verdict_of
   between i j e = between_by _ i j e
 

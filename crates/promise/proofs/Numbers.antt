@@ -1,5 +1,6 @@
 -- What the number that a check returns tells besides: it has no bits but those of its kind and its two numbers, and the
 -- pair of a clash is the first.
+use Rattle.std.specs.Prelude.{Ok}
 use Prim.Native.Nat.{ℕ, ◌/◌, ◌<◌, ◌≤◌}
 use lib.ListN.{length}
 use mathlib.Core.Bool.{true}
@@ -8,15 +9,13 @@ use mathlib.Core.Logic.{◌⊎◌, inl, inr}
 use mathlib.Core.Path.{◌≡◌, ◌∙◌, sym}
 use native.Mathlib.Nat.{mul-le-mul}
 use native.Mathlib.Omega.{arith}
-use Rattle.fields.specs.declared.numbers.Cursor.{Cursor}
 use Rattle.fields.specs.Limits.{most_variables}
-use Rattle.headers.specs.declared.headers.Header.{Header}
-use Rattle.sheet.specs.declared.whole.SheetRead.{SheetRead}
+use Rattle.sheet.specs.declared.whole.Accepted.{Accepted}
 use Rattle.sheet.specs.Sheets.{sheet_of}
 use Rattle.sheet.proofs.Theorems.{accepted_few}
 use Rattle.rules.specs.Clashes.{clashes_at}
 use Rattle.rules.specs.Derived.{facts_of}
-use Rattle.rules.specs.Facts.{ordered, compatible}
+use Rattle.rules.specs.declared.kinds.Kind.{Kind}
 use Rattle.rules.proofs.Clashing.{clash_least}
 use Rattle.rules.proofs.Counts.{count_bound}
 use Rattle.rules.proofs.Logic.{contrary}
@@ -35,29 +34,29 @@ alone o few near = second_whole o few ∙ sym (second_is o few near)
 
 module _ {b facts work replies facts' work' replies' : List ℕ} {r : ℕ}
     (returned : Returned b facts work replies facts' work' replies' r) where
-  few : (h : Header) (asked : Cursor) → read returned ≡ SheetRead.Accepted h asked → (sheet_of b).n ≤ most_variables
-  few h asked e =
-      let fits = accepted_fits b (length facts) (length work) (length replies) h asked e in
-      accepted_few b h asked fits.accepted
+  few : (a : Accepted) → read returned ≡ Ok a → (sheet_of b).n ≤ most_variables
+  few a e =
+      let fits = accepted_fits b (length facts) (length work) (length replies) a e in
+      accepted_few b a fits.accepted
 
   pub no_other_bits : r / 16777216 ≡ second_in r
   no_other_bits =
       by_case returned
       (λ q e k. rw (refused_number returned q e)
       (alone (of_refusal q) (small_number q.fault) (place_small returned q e)))
-      (λ h asked e is k.
-      let n = few h asked e in
+      (λ a e is k.
+      let n = few a e in
       let size = mul-le-mul n n in
       let s = sheet_of b in
       let facts = facts_of s.stated s.n in
-      rw (accepted_number returned h asked e, is)
-      (alone (Outcome.Consistent _ _) (omega (arith, size, count_bound s.n facts ordered))
-      (omega (arith, size, count_bound s.n facts compatible))))
-      (λ h asked i j e is k.
+      rw (accepted_number returned a e, is)
+      (alone (Outcome.Consistent _ _) (omega (arith, size, count_bound s.n facts Kind.Ordered))
+      (omega (arith, size, count_bound s.n facts Kind.Compatible))))
+      (λ a i j e is k.
       let s = sheet_of b in
       let least = (clash_least s.stated s.n i.0 j.0).0 (between s i j is) in
-      rw (accepted_number returned h asked e, is)
-      (alone (Outcome.Clash i j) (omega (arith, few h asked e, least.row)) (omega (arith, few h asked e, least.column))))
+      rw (accepted_number returned a e, is)
+      (alone (Outcome.Clash i j) (omega (arith, few a e, least.row)) (omega (arith, few a e, least.column))))
 
 -- F5 applies to no pair before the one that a clash tells, row by row
 pub none_before : {b facts₀ work₀ replies₀ facts' replies' : List ℕ} {r : ℕ}

@@ -1,4 +1,5 @@
 -- What is returned and left, by cases: refused, clash or consistent; and the reply byte of a question.
+use Rattle.std.specs.Prelude.{Result, Ok, Err}
 use Prim.Native.Nat.{ℕ, zero, suc, ◌<◌}
 use lib.ListN.{length, get_or, length-map}
 use mathlib.Core.List.{List, [], ◌∷◌, ◌++◌, map}
@@ -7,15 +8,13 @@ use mathlib.Core.Option.{some}
 use mathlib.Core.Path.{◌≡◌, refl, ap, subst, ◌∙◌}
 use native.Mathlib.Omega.{arith}
 use Rattle.std.proofs.lemmas.Slice.{drop-append-drop}
-use Rattle.fields.specs.declared.numbers.Cursor.{Cursor}
 use Rattle.fields.specs.declared.numbers.Variable.{Variable}
 use Rattle.fields.specs.declared.refusals.Fault.{Fault}
 use Rattle.fields.specs.declared.refusals.Refusal.{Refusal}
 use Rattle.fields.specs.Refusals.{number_of}
-use Rattle.headers.specs.declared.headers.Header.{Header}
 use Rattle.items.specs.Questions.{Query, holds}
 use Rattle.items.specs.Statements.{All}
-use Rattle.sheet.specs.declared.whole.SheetRead.{SheetRead}
+use Rattle.sheet.specs.declared.whole.Accepted.{Accepted}
 use Rattle.sheet.specs.Sheets.{Sheet, sheet_of}
 use Rattle.rules.specs.declared.replies.Reply.{Reply}
 use Rattle.rules.specs.declared.verdicts.Verdict.{Verdict}
@@ -32,10 +31,10 @@ use Rattle.promise.specs.Checks.{sheet_outcome, of_refusal, outcome_of, over, wh
 use Rattle.promise.specs.Promise.{IsAccepted, IsRefused, question_in, RefusalTold, OneReplyEach, Supported}
 
 -- an answer of one kind is not of another
-pub never_accepted : {r : Refusal} → IsAccepted (SheetRead.Refused r) → ⊥
-never_accepted (h, (asked, e)) = let z : ◌≡◌ {A = ℕ} 0 1 = cc in omega arith
+pub never_accepted : {r : Refusal} → IsAccepted (Err r) → ⊥
+never_accepted (a, e) = let z : ◌≡◌ {A = ℕ} 0 1 = cc in omega arith
 
-pub never_refused : {h : Header} {asked : Cursor} → IsRefused (SheetRead.Accepted h asked) → ⊥
+pub never_refused : {a : Accepted} → IsRefused (Ok a) → ⊥
 never_refused (r, e) = let z : ◌≡◌ {A = ℕ} 0 1 = cc in omega arith
 
 -- what holds of every question holds of question k
@@ -103,42 +102,42 @@ always_supported s (holds x) = (replied s (holds x)).always
 -- the three cases of what is returned
 module _ {b facts work replies facts' work' replies' : List ℕ} {r : ℕ}
     (returned : Returned b facts work replies facts' work' replies' r) where
-  abbrev pub read : SheetRead
+  abbrev pub read : Result Accepted Refusal
   read = judged b (length facts) (length work) (length replies)
 
-  pub refused_number : (q : Refusal) → read ≡ SheetRead.Refused q → r ≡ packed (of_refusal q)
+  pub refused_number : (q : Refusal) → read ≡ Err q → r ≡ packed (of_refusal q)
   unfolding outcome_of
   refused_number q e = rw (returned.number, e) refl
 
-  pub accepted_number : (h : Header) (asked : Cursor) → read ≡ SheetRead.Accepted h asked
+  pub accepted_number : (a : Accepted) → read ≡ Ok a
       → r ≡ packed (sheet_outcome (sheet_of b))
   unfolding outcome_of
-  accepted_number h asked e = rw (returned.number, e) refl
+  accepted_number a e = rw (returned.number, e) refl
 
-  pub by_case : {C : Type 0} → ((q : Refusal) → read ≡ SheetRead.Refused q → kind_in r ≡ 2 → C)
-      → ((h : Header) (asked : Cursor) → read ≡ SheetRead.Accepted h asked
+  pub by_case : {C : Type 0} → ((q : Refusal) → read ≡ Err q → kind_in r ≡ 2 → C)
+      → ((a : Accepted) → read ≡ Ok a
       → verdict_of (sheet_of b) ≡ Verdict.Consistent → kind_in r ≡ 0 → C)
-      → ((h : Header) (asked : Cursor) (i j : Variable) → read ≡ SheetRead.Accepted h asked
+      → ((a : Accepted) (i j : Variable) → read ≡ Ok a
       → verdict_of (sheet_of b) ≡ Verdict.Clash i j → kind_in r ≡ 1 → C)
       → C
   by_case {C} stopped fine clashing = go _ refl
     where
-      told : (h : Header) (asked : Cursor) → read ≡ SheetRead.Accepted h asked
+      told : (a : Accepted) → read ≡ Ok a
           → (v : Verdict) → verdict_of (sheet_of b) ≡ v → C
-      told h asked e Verdict.Consistent is =
-          fine h asked e is (rw (accepted_number h asked e, is) (kind_is _))
-      told h asked e (Verdict.Clash i j) is =
-          clashing h asked i j e is (rw (accepted_number h asked e, is) (kind_is (Outcome.Clash i j)))
+      told a e Verdict.Consistent is =
+          fine a e is (rw (accepted_number a e, is) (kind_is _))
+      told a e (Verdict.Clash i j) is =
+          clashing a i j e is (rw (accepted_number a e, is) (kind_is (Outcome.Clash i j)))
 
-      go : (x : SheetRead) → read ≡ x → C
-      go (SheetRead.Refused q) e = stopped q e (rw (refused_number q e) (kind_is (of_refusal q)))
-      go (SheetRead.Accepted h asked) e = told h asked e _ refl
+      go : (x : Result Accepted Refusal) → read ≡ x → C
+      go (Err q) e = stopped q e (rw (refused_number q e) (kind_is (of_refusal q)))
+      go (Ok a) e = told a e _ refl
 
-  pub place_small : (q : Refusal) → read ≡ SheetRead.Refused q → q.at < 65536
+  pub place_small : (q : Refusal) → read ≡ Err q → q.at < 65536
   place_small q e = omega (arith, refused_soon b (length facts) (length work) (length replies) q e)
 
   -- a refusal is told by number and place, and all is left as it was
-  pub refusal_told_lem : (q : Refusal) → read ≡ SheetRead.Refused q
+  pub refusal_told_lem : (q : Refusal) → read ≡ Err q
       → RefusalTold q facts work replies facts' work' replies' r
   refusal_told_lem q e =
       let is = refused_number q e in
@@ -152,7 +151,7 @@ module _ {b facts work replies facts' work' replies' : List ℕ} {r : ℕ}
       }
 
   -- of a consistent sheet the replies are written
-  module _ (h : Header) (asked : Cursor) (e : read ≡ SheetRead.Accepted h asked)
+  module _ (a : Accepted) (e : read ≡ Ok a)
       (is : verdict_of (sheet_of b) ≡ Verdict.Consistent) where
     pub replies_written : replies' ≡ over (map reply_number (replies_of (sheet_of b))) replies
     unfolding where_consistent
@@ -183,11 +182,11 @@ module _ {b facts work replies facts' work' replies' : List ℕ} {r : ℕ}
       → (get_or replies' k 0 ≡ 0) ↔ Supported (sheet_of b) q
   by_support kind k q at =
       by_case (λ x e z. absurd (omega arith))
-      (λ h asked e is z. rw (reply_byte h asked e is k q at)
+      (λ a e is z. rw (reply_byte a e is k q at)
       (through (number_always (reply_to (sheet_of b) q)) (always_supported (sheet_of b) q)))
-      (λ h asked i j e is z. absurd (omega arith))
+      (λ a i j e is z. absurd (omega arith))
 
-  pub refused_apart : (q : Refusal) → read ≡ SheetRead.Refused q → IsAccepted read → ⊥
+  pub refused_apart : (q : Refusal) → read ≡ Err q → IsAccepted read → ⊥
   refused_apart q e a = never_accepted (rw e at a)
 
 -- a tree that is its own child at every feature, with the same label everywhere

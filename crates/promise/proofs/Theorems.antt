@@ -1,5 +1,6 @@
 -- What users rest on: the sentences of demands 1, 2 and 3, each a theorem, of any bytes, buffers and number of which
 -- `Returned` and `Means` are ensured.
+use Rattle.std.specs.Prelude.{Result, Err}
 use Prim.Native.Nat.{ℕ}
 use mathlib.Core.List.{List}
 use mathlib.Core.Logic.{◌↔◌, ◌⊎◌, inl, inr}
@@ -10,7 +11,7 @@ use lib.ListN.{get_or, take}
 use Rattle.fields.specs.declared.refusals.Refusal.{Refusal}
 use Rattle.headers.specs.Headers.{size_for}
 use Rattle.items.specs.Questions.{Query}
-use Rattle.sheet.specs.declared.whole.SheetRead.{SheetRead}
+use Rattle.sheet.specs.declared.whole.Accepted.{Accepted}
 use Rattle.sheet.specs.Sheets.{sheet_of}
 use Rattle.rules.specs.Demand.{Derives}
 use Rattle.rules.specs.Derived.{facts_of}
@@ -28,13 +29,13 @@ use Rattle.promise.proofs.Clashes.{none_applies}
 module _ {b facts work replies facts' work' replies' : List ℕ} {r : ℕ}
     (returned : Returned b facts work replies facts' work' replies' r)
     (means : Means b facts work replies facts' replies' r) where
-  abbrev read : SheetRead
+  abbrev read : Result Accepted Refusal
   read = Shown.read returned
 
   -- Demand 1. Refused are malformed sheets and lent buffers too short for the sheet, by number and place, with every
   -- lent byte left unchanged.
   pub refused : (kind_in r ≡ 2)
-      ↔ ((q : Refusal) × ((read ≡ SheetRead.Refused q) × RefusalTold q facts work replies facts' work' replies' r))
+      ↔ ((q : Refusal) × ((read ≡ Err q) × RefusalTold q facts work replies facts' work' replies' r))
   refused = (
     λ k. let q = means.refused.0 k in (q.0, (q.1, Shown.refusal_told_lem returned q.0 q.1)),
     λ q. means.refused.1 (q.0, q.1.0),
@@ -47,13 +48,13 @@ module _ {b facts work replies facts' work' replies' : List ℕ} {r : ℕ}
       × (kind_in r ≡ 0 → OneReplyEach (sheet_of b) replies replies')
   accepted other =
       Shown.by_case returned (λ q e k. absurd (other (q, e)))
-      (λ h asked e is k. (inl k, means.derived (h, (asked, e)), λ z. Shown.one_reply_each returned h asked e is))
-      (λ h asked i j e is k. (inr k, means.derived (h, (asked, e)), λ z. absurd (omega arith)))
+      (λ a e is k. (inl k, means.derived (a, e), λ z. Shown.one_reply_each returned a e is))
+      (λ a i j e is k. (inr k, means.derived (a, e), λ z. absurd (omega arith)))
 
   -- Nothing need be checked beforehand.
   pub every_input : (kind_in r ≡ 0) ⊎ ((kind_in r ≡ 1) ⊎ (kind_in r ≡ 2))
   every_input =
-      Shown.by_case returned (λ q e k. inr (inr k)) (λ h asked e is k. inl k) (λ h asked i j e is k. inr (inl k))
+      Shown.by_case returned (λ q e k. inr (inr k)) (λ a e is k. inl k) (λ a i j e is k. inr (inl k))
 
   -- Demand 2. The fact table holds exactly the facts that rules F1 to F4 of the calculus derive from the sheet,
   pub facts_derived : IsAccepted read
@@ -66,7 +67,7 @@ module _ {b facts work replies facts' work' replies' : List ℕ} {r : ℕ}
   clash_by_f5 is_accepted = (
     λ k. let least = means.least k in (first_in r, (second_in r, (least.row, least.column, least.applies))),
     λ found. Shown.by_case returned (λ q e k. absurd (Shown.refused_apart returned q e is_accepted))
-        (λ h asked e is k. absurd (none_applies (sheet_of b) is found)) (λ h asked i j e is k. k),
+        (λ a e is k. absurd (none_applies (sheet_of b) is found)) (λ a i j e is k. k),
   )
 
   -- and replies agree with its test of support.

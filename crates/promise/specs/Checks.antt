@@ -1,9 +1,10 @@
 -- What a check of any bytes gives, and what it leaves in the lent buffers.
-use Rattle.std.specs.Prelude.{ℕ, length, drop, replicate, List, ◌++◌, map, ◌≡◌}
+use Rattle.std.specs.Prelude.{ℕ, length, drop, replicate, List, ◌++◌, map, ◌≡◌, Result}
 use Rattle.fields.specs.declared.refusals.Refusal.{Refusal}
 use Rattle.headers.specs.Headers.{size_for}
-use Rattle.sheet.specs.declared.whole.SheetRead.{SheetRead}
-use Rattle.sheet.specs.Sheets.{Sheet, then_sheet, sheet_of}
+use Rattle.fields.specs.Fields.{then_value}
+use Rattle.sheet.specs.declared.whole.Accepted.{Accepted}
+use Rattle.sheet.specs.Sheets.{Sheet, sheet_of}
 use Rattle.rules.specs.declared.verdicts.Verdict.{Verdict}
 use Rattle.rules.specs.Derived.{facts_of}
 use Rattle.rules.specs.Tables.{table_bytes}
@@ -24,7 +25,7 @@ of_refusal r = Outcome.Refused r.fault r.at
 -- the outcome
 unfoldable pub outcome_of : List ℕ → ℕ → ℕ → ℕ → Outcome
 outcome_of b facts work replies =
-    then_sheet (judged b facts work replies) of_refusal λ h asked. sheet_outcome (sheet_of b)
+    then_value (judged b facts work replies) of_refusal λ a. sheet_outcome (sheet_of b)
 
 -- the first bytes of a buffer written over, and the others as they were
 abbrev pub over : List ℕ → List ℕ → List ℕ
@@ -48,8 +49,8 @@ abbrev pub replies_after : Sheet → List ℕ → List ℕ
 replies_after s replies = where_consistent (verdict_of s) (over (map reply_number (replies_of s)) replies) replies
 
 -- what a buffer holds: as it was where the call is refused
-abbrev pub written : SheetRead → Sheet → (Sheet → List ℕ → List ℕ) → List ℕ → List ℕ
-written read s after buffer = then_sheet read (λ r. buffer) (λ h asked. after s buffer)
+abbrev pub written : Result Accepted Refusal → Sheet → (Sheet → List ℕ → List ℕ) → List ℕ → List ℕ
+written read s after buffer = then_value read (λ r. buffer) (λ a. after s buffer)
 
 -- every lent byte afterwards
 pub record Written (b facts work replies facts' work' replies' : List ℕ) : Type 0 where

@@ -1,13 +1,11 @@
 -- What the number that a check returns and the bytes that it leaves mean: demands 1 to 3, of any bytes and buffers.
-use Rattle.std.specs.Prelude.{ℕ, zero, suc, ◌<◌, true, length, get_or, take, drop, List, [], ◌∷◌, ◌↔◌, ◌≡◌}
+use Rattle.std.specs.Prelude.{ℕ, zero, suc, ◌<◌, true, length, get_or, take, drop, List, [], ◌∷◌, ◌↔◌, ◌≡◌, Result, Ok, Err}
 use Rattle.std.proofs.Math.Option.{Option, none, some}
-use Rattle.fields.specs.declared.numbers.Cursor.{Cursor}
 use Rattle.fields.specs.declared.refusals.Refusal.{Refusal}
 use Rattle.fields.specs.Refusals.{number_of}
-use Rattle.headers.specs.declared.headers.Header.{Header}
 use Rattle.headers.specs.Headers.{size_for}
 use Rattle.items.specs.Questions.{Query, holds}
-use Rattle.sheet.specs.declared.whole.SheetRead.{SheetRead}
+use Rattle.sheet.specs.declared.whole.Accepted.{Accepted}
 use Rattle.sheet.specs.Sheets.{Sheet, sheet_of}
 use Rattle.rules.specs.Clashes.{clashes_at}
 use Rattle.rules.specs.Demand.{Derives, LeastClash}
@@ -20,11 +18,11 @@ use Rattle.outcomes.specs.Outcomes.{kind_in, first_in, second_in}
 use Rattle.outcomes.specs.Judged.{judged}
 
 -- no row of the refusals applies to the bytes and the lent lengths, or one does
-abbrev pub IsAccepted : SheetRead → Type 0
-IsAccepted read = (h : Header) × ((asked : Cursor) × (read ≡ SheetRead.Accepted h asked))
+abbrev pub IsAccepted : Result Accepted Refusal → Type 0
+IsAccepted read = (a : Accepted) × (read ≡ Ok a)
 
-abbrev pub IsRefused : SheetRead → Type 0
-IsRefused read = (r : Refusal) × (read ≡ SheetRead.Refused r)
+abbrev pub IsRefused : Result Accepted Refusal → Type 0
+IsRefused read = (r : Refusal) × (read ≡ Err r)
 
 -- question k of a sheet
 abbrev pub question_in : List Query → ℕ → Option Query

@@ -5,20 +5,20 @@ use lib.Seq.{take-suc-set, take-length}
 use mathlib.Core.List.{List, [], ◌∷◌, ◌++◌, map, append-nil, append_assoc, map-append}
 use mathlib.Core.Path.{◌≡◌, refl, sym, ap, subst, ◌∙◌}
 use native.Mathlib.Omega.{arith}
+use Rattle.std.specs.Prelude.{Ok, Err}
+use Rattle.fields.specs.declared.fields.Field.{Field}
 use Rattle.fields.specs.declared.numbers.Cursor.{Cursor}
 use Rattle.fields.specs.declared.refusals.Place.{Place}
 use Rattle.fields.specs.declared.refusals.Refusal.{Refusal}
+use Rattle.fields.specs.Fields.{Read, found}
 use Rattle.fields.specs.Limits.{most_items}
-use Rattle.headers.specs.declared.headers.Header.{Header}
-use Rattle.items.specs.declared.items.EndRead.{EndRead}
 use Rattle.items.specs.declared.items.Item.{Item}
-use Rattle.items.specs.declared.items.ItemRead.{ItemRead}
 use Rattle.items.specs.declared.items.Question.{Question}
-use Rattle.items.specs.declared.items.QuestionRead.{QuestionRead}
 use Rattle.items.specs.Items.{item_at, items_end, items_of, question_at}
 use Rattle.items.specs.Questions.{Query, question_of, query_of, Asks, AllAsk}
 use Rattle.items.proofs.Runs.{run_on, run_reads, items_over, items_on}
 use Rattle.headers.specs.Headers.{reply_count}
+use Rattle.sheet.specs.declared.whole.Accepted.{Accepted}
 use Rattle.sheet.specs.Sheets.{asks, sheet_of, sheet_at}
 use Rattle.sheet.proofs.Theorems.{accepted_read, accepted_sheet, accepted_variables, accepted_asked}
 use Rattle.rules.specs.declared.replies.Reply.{Reply}
@@ -38,65 +38,63 @@ pub record Answers (s : List ℕ) (n left : ℕ) (cursor : Cursor) (k : ℕ) (re
   pub written : take k replies ≡ numbers_of s done
   pub rest : (sheet_of s).asked ≡ done ++ map asks (items_of left Place.Question s n cursor)
   pub end : Cursor
-  pub readable : items_end left Place.Question s n cursor ≡ EndRead.At end
+  pub readable : items_end left Place.Question s n cursor ≡ Ok end
   pub room : k + left ≡ length replies
   pub few : k + left ≤ most_items
 
 -- before the first question
-pub answers_start : (s : List ℕ) (h : Header) (asked : Cursor) (replies : List ℕ) → Asked s h asked replies
-    → Answers s h.variables h.questions asked 0 replies
+pub answers_start : (s : List ℕ) (a : Accepted) (replies : List ℕ) → Asked s a replies
+    → Answers s a.header.variables a.header.questions a.asked 0 replies
 unfolding sheet_at reply_count
-answers_start s h asked replies a =
-    let read = accepted_read s h asked a.accepted in
-    let is = accepted_sheet s h asked a.accepted in
+answers_start s a replies given =
+    let read = accepted_read s a given.accepted in
+    let is = accepted_sheet s a given.accepted in
     record {
-      variables = accepted_variables s h asked a.accepted;
-      named = accepted_asked s h asked a.accepted;
+      variables = accepted_variables s a given.accepted;
+      named = accepted_asked s a given.accepted;
       done = [];
       written = refl;
       rest = ap (λ y. y.asked) is;
       end = read.end;
       readable = read.questions_end;
-      room = omega (arith, a.room);
+      room = omega (arith, given.room);
       few = omega (arith, read.heads.questions);
     }
 
 -- a question that is read is the one that its item asks
-read_item : {C : Type 0} (s : List ℕ) (n : ℕ) (c : Cursor) (q : Question) (next : Cursor)
-    → question_at s n c ≡ QuestionRead.Asks q next
-    → ((x : Item) → item_at Place.Question s n c ≡ ItemRead.Is x next → question_of x ≡ q → C) → C
+read_item : {C : Type 0} (s : List ℕ) (n : ℕ) (c : Cursor) (q : Field Question) → question_at s n c ≡ Ok q
+    → ((x : Item) → item_at Place.Question s n c ≡ found x q.next → question_of x ≡ q.value → C) → C
 unfolding question_at
-read_item {C} s n c q next e go = first (item_at Place.Question s n c) refl
+read_item {C} s n c q e go = first (item_at Place.Question s n c) refl
   where
-    first : (r : ItemRead) → item_at Place.Question s n c ≡ r → C
-    first (ItemRead.Is x next') i =
-        let e' : QuestionRead.Asks (question_of x) next' ≡ QuestionRead.Asks q next = rw i at e in
-        let same_next : next' ≡ next = cc in
-        let same_question : question_of x ≡ q = cc in
-        go x (i ∙ ap (ItemRead.Is x) same_next) same_question
-    first (ItemRead.Refused r) i =
-        let e' : QuestionRead.Refused r ≡ QuestionRead.Asks q next = rw i at e in
+    first : (r : Read Item) → item_at Place.Question s n c ≡ r → C
+    first (Ok x) i =
+        let e' : found (question_of x.value) x.next ≡ Ok q = rw i at e in
+        let same : record { value = question_of x.value; next = x.next } ≡ q = cc in
+        go x.value (i ∙ ap (λ (y : Field Question). found x.value y.next) same) (ap (λ (y : Field Question). y.value) same)
+    first (Err r) i =
+        let e' : ◌≡◌ {A = Read Question} (Err r) (Ok q) = rw i at e in
         let z : ◌≡◌ {A = ℕ} 0 1 = cc in absurd (omega arith)
 
 -- one question
 module _ {s : List ℕ} {n left : ℕ} {cursor : Cursor} {k : ℕ} {replies : List ℕ} (g : Answers s n left cursor k replies)
     (more : 0 < left) where
-  module _ {q : Question} {next : Cursor} (read : question_at s n cursor ≡ QuestionRead.Asks q next) where
+  module _ {q : Field Question} (read : question_at s n cursor ≡ Ok q) where
     split : (sheet_of s).asked
-        ≡ g.done ++ (query_of q ∷ map asks (items_of (left - 1) Place.Question s n next))
+        ≡ g.done ++ (query_of q.value ∷ map asks (items_of (left - 1) Place.Question s n q.next))
     split =
-        read_item s n cursor q next read λ x i e.
+        read_item s n cursor q read λ x i e.
         g.rest
-        ∙ ap (λ y. g.done ++ map asks y) (items_on Place.Question s n cursor left x next more i)
-        ∙ ap (λ y. g.done ++ (query_of y ∷ map asks (items_of (left - 1) Place.Question s n next))) e
+        ∙ ap (λ y. g.done ++ map asks y) (items_on Place.Question s n cursor left _ more i)
+        ∙ ap (λ y. g.done ++ (query_of y ∷ map asks (items_of (left - 1) Place.Question s n q.next))) e
 
-    pub question_named : Asks n (query_of q)
+    pub question_named : Asks n (query_of q.value)
     question_named =
-        let rest = map asks (items_of (left - 1) Place.Question s n next) in
-        (all_split (Asks n) g.done (query_of q ∷ rest) (subst (AllAsk n) split g.named)).1.0
+        let rest = map asks (items_of (left - 1) Place.Question s n q.next) in
+        (all_split (Asks n) g.done (query_of q.value ∷ rest) (subst (AllAsk n) split g.named)).1.0
 
-    pub answers_next : {r : Reply} {v : ℕ} → r ≡ reply_to (sheet_of s) (query_of q) → v ≡ reply_number r
-        → Answers s n (left - 1) next (k + 1) (set replies k v)
+    answers_next : {r : Reply} {v : ℕ} → r ≡ reply_to (sheet_of s) (query_of q.value) → v ≡ reply_number r
+        → Answers s n (left - 1) q.next (k + 1) (set replies k v)
     answers_next {r} {v} answer number =
         let size = g.room in
         let is = number ∙ ap reply_number answer in
@@ -104,30 +102,35 @@ module _ {s : List ℕ} {n left : ℕ} {cursor : Cursor} {k : ℕ} {replies : Li
         record {
           variables = g.variables;
           named = g.named;
-          done = g.done ++ (query_of q ∷ []);
+          done = g.done ++ (query_of q.value ∷ []);
           written =
               rw one_more (take-suc-set replies k v (omega arith))
               ∙ ap (λ y. take k replies ++ (y ∷ [])) is
-              ∙ ap (λ y. y ++ (reply_number (reply_to (sheet_of s) (query_of q)) ∷ [])) g.written
-              ∙ sym (map-append (λ y. reply_number (reply_to (sheet_of s) y)) g.done (query_of q ∷ []));
-          rest = split ∙ sym (append_assoc g.done (query_of q ∷ []) _);
+              ∙ ap (λ y. y ++ (reply_number (reply_to (sheet_of s) (query_of q.value)) ∷ [])) g.written
+              ∙ sym (map-append (λ y. reply_number (reply_to (sheet_of s) y)) g.done (query_of q.value ∷ []));
+          rest = split ∙ sym (append_assoc g.done (query_of q.value ∷ []) _);
           end = g.end;
           readable =
-              read_item s n cursor q next read λ x i e.
-              sym (run_on Place.Question s n cursor left x next more i) ∙ g.readable;
+              read_item s n cursor q read λ x i e.
+              sym (run_on Place.Question s n cursor left _ more i) ∙ g.readable;
           room = omega (arith, size, length-set replies k v);
           few = omega (arith, g.few, more);
         }
 
-  pub none_refused : {r : Refusal} → question_at s n cursor ≡ QuestionRead.Refused r → ⊥
+    -- the same, with what is left counted otherwise
+    pub answers_on : {r : Reply} {v left' : ℕ} → left' ≡ left - 1 → r ≡ reply_to (sheet_of s) (query_of q.value)
+        → v ≡ reply_number r → Answers s n left' q.next (k + 1) (set replies k v)
+    answers_on same answer number = rw same (answers_next answer number)
+
+  pub none_refused : {r : Refusal} → question_at s n cursor ≡ Err r → ⊥
   unfolding question_at
   none_refused {r} e = first (item_at Place.Question s n cursor) refl
     where
-      first : (x : ItemRead) → item_at Place.Question s n cursor ≡ x → ⊥
-      first (ItemRead.Is x next) i =
-          let e' : QuestionRead.Asks (question_of x) next ≡ QuestionRead.Refused r = rw i at e in
+      first : (x : Read Item) → item_at Place.Question s n cursor ≡ x → ⊥
+      first (Ok x) i =
+          let e' : found (question_of x.value) x.next ≡ Err r = rw i at e in
           let z : ◌≡◌ {A = ℕ} 0 1 = cc in omega arith
-      first (ItemRead.Refused r') i = run_reads Place.Question s n cursor g.end left r' more g.readable i
+      first (Err r') i = run_reads Place.Question s n cursor g.end left r' more g.readable i
 
 -- behind the last question
 pub answers_end : {s : List ℕ} {n left : ℕ} {cursor : Cursor} {k : ℕ} {replies : List ℕ}

@@ -1,85 +1,87 @@
 -- While questions are replied to, what they are tried by stays as it was.
 use Prim.Native.Nat.{ℕ, ◌+◌, ◌-◌, ◌<◌}
-use lib.ListN.{set}
+use lib.ListN.{length, set, length-set}
 use mathlib.Core.List.{List}
 use mathlib.Core.Path.{◌≡◌, refl, sym, subst, ◌∙◌}
+use native.Mathlib.Omega.{arith}
+use Rattle.std.specs.Prelude.{Ok, Err}
+use Rattle.fields.specs.declared.fields.Field.{Field}
 use Rattle.fields.specs.declared.numbers.Cursor.{Cursor}
+use Rattle.fields.specs.declared.refusals.Refusal.{Refusal}
 use Rattle.items.specs.declared.items.Question.{Question}
-use Rattle.items.specs.declared.items.QuestionRead.{QuestionRead}
-use Rattle.items.specs.Questions.{Query, query_of}
+use Rattle.items.specs.Questions.{Query, query_of, Asks}
 use Rattle.items.specs.Items.{question_at}
+use Rattle.headers.specs.Headers.{reply_count}
+use Rattle.sheet.specs.declared.whole.Accepted.{Accepted}
 use Rattle.sheet.specs.Sheets.{sheet, sheet_of}
 use Rattle.rules.specs.declared.replies.Reply.{Reply}
 use Rattle.rules.specs.Replies.{reply_to, reply_number}
-use Rattle.labels.specs.declared.spread.Spread.{Spread}
+use Rattle.facts.specs.declared.growth.Growth.{Growth}
+use Rattle.facts.proofs.Growing.{same_none, same_then}
+use Rattle.selections.specs.declared.grouped.Groups.{Groups}
+use Rattle.closure.specs.declared.closed.Closed.{Closed}
 use Rattle.closure.specs.Trials.{Restored}
-use Rattle.closure.proofs.Grouped.{with_queue}
-use Rattle.replies.specs.Replying.{Replying, Held, ReplyTold}
-use Rattle.replies.proofs.Answered.{Answers, answers_next}
+use Rattle.replies.specs.Replying.{Held, ReplyTold, Asked}
+use Rattle.replies.proofs.Answered.{Answers, answers_start, question_named, answers_on, none_refused}
 
-pub record Going (s : List ℕ) (n : ℕ) (closed subjects features children starts : List ℕ)
-    (ends₀ features₀ children₀ counts labels : List ℕ) (spread : Spread)
-    (t ends group_features group_children queue : List ℕ) (left : ℕ) (cursor : Cursor) (k : ℕ) (replies : List ℕ)
-    : Type 0 where
-  pub answers : Answers s n left cursor k replies
-  pub replying : Replying n closed t queue subjects features children starts ends₀ features₀ children₀ counts labels
-      spread
-  pub held : Held n closed subjects features children starts ends₀ features₀ children₀ counts labels
-      (sheet_of s).stated
-  pub same_ends : ends ≡ ends₀
-  pub same_features : group_features ≡ features₀
-  pub same_children : group_children ≡ children₀
+-- all is as it was
+pub restored_none : (g : Growth) (groups : Groups) → Restored g g groups groups
+restored_none g groups = record { same = same_none g; table = refl; queue = refl; grouped = refl }
 
-module _ {s : List ℕ} {n : ℕ} {closed subjects features children starts : List ℕ}
-    {ends₀ features₀ children₀ counts labels : List ℕ} {spread : Spread} where
-  pub going_start : {t queue replies : List ℕ} {left k : ℕ} {cursor : Cursor} → Answers s n left cursor k replies
-      → Replying n closed t queue subjects features children starts ends₀ features₀ children₀ counts labels spread
-      → Held n closed subjects features children starts ends₀ features₀ children₀ counts labels (sheet_of s).stated
-      → Going s n closed subjects features children starts ends₀ features₀ children₀ counts labels spread
-      t ends₀ features₀ children₀ queue left cursor k replies
-  going_start answers replying held =
+pub restored_then : {g g' g'' : Growth} {groups groups' groups'' : Groups} → Restored g g' groups groups'
+    → Restored g' g'' groups' groups'' → Restored g g'' groups groups''
+restored_then a b =
+    record {
+      same = same_then a.same b.same;
+      table = b.table ∙ a.table;
+      queue = b.queue ∙ a.queue;
+      grouped = b.grouped ∙ a.grouped;
+    }
+
+-- what is told of the statements is told of the sheet
+module _ (s : List ℕ) {c : Closed} {g g' : Growth} {groups groups' : Groups} {n : ℕ} (sizes : g.n ≡ n)
+    (held : Held n c groups (sheet_of s).stated) (restored : Restored g g' groups groups')
+    (variables : (sheet_of s).n ≡ n) where
+  pub from_sheet : {q : Query} {r : Reply} → ReplyTold g'.n (Held g'.n c groups') q r → r ≡ reply_to (sheet_of s) q
+  from_sheet {q} {r} told =
+      let same : g'.n ≡ n = restored.same.n ∙ sizes in
+      let of_n : ReplyTold n (Held n c groups') q r = subst (λ m. ReplyTold m (Held m c groups') q r) same told in
+      subst (λ m. r ≡ reply_to (sheet m (sheet_of s).stated (sheet_of s).asked) q) (sym variables)
+      (of_n.told (sheet_of s).stated (sheet_of s).asked (rw restored.grouped held))
+
+-- k questions are replied to, and table, queue and groups are as they were
+pub record Going (s : List ℕ) (n : ℕ) (g g' : Growth) (groups groups' : Groups) (cursor : Cursor) (k : ℕ)
+    (replies : List ℕ) : Type 0 where
+  pub answers : Answers s n (length replies - k) cursor k replies
+  pub restored : Restored g g' groups groups'
+
+-- before the first question
+pub going_start : (s : List ℕ) (a : Accepted) (g : Growth) (groups : Groups) (replies : List ℕ) → Asked s a replies
+    → Going s a.header.variables g g groups groups a.asked 0 replies
+unfolding reply_count
+going_start s a g groups replies asked =
+    let all : length replies - 0 ≡ a.header.questions = omega (arith, asked.room) in
+    record { answers = rw all (answers_start s a replies asked); restored = restored_none g groups }
+
+-- one question
+module _ {s : List ℕ} {n : ℕ} {g g' : Growth} {groups groups' : Groups} {cursor : Cursor} {k : ℕ} {replies : List ℕ}
+    (going : Going s n g g' groups groups' cursor k replies) (h : k < length replies) where
+  pub question_asks : {q : Field Question} → g.n ≡ n → question_at s n cursor ≡ Ok q → Asks g'.n (query_of q.value)
+  question_asks {q} sizes read =
+      subst (λ m. Asks m (query_of q.value)) (sym (going.restored.same.n ∙ sizes))
+      (question_named going.answers (omega arith) read)
+
+  pub going_refused : {r : Refusal} → question_at s n cursor ≡ Err r → ⊥
+  going_refused e = none_refused going.answers (omega arith) e
+
+  pub going_next : {c : Closed} {g'' : Growth} {groups'' : Groups} {q : Field Question} {r : Reply} {v : ℕ} → g.n ≡ n
+      → Held n c groups (sheet_of s).stated → question_at s n cursor ≡ Ok q
+      → ReplyTold g'.n (Held g'.n c groups') (query_of q.value) r → v ≡ reply_number r
+      → Restored g' g'' groups' groups'' → Going s n g g'' groups groups'' q.next (k + 1) (set replies k v)
+  going_next {v = v} sizes held read told number restored =
       record {
-        answers = answers;
-        replying = replying;
-        held = held;
-        same_ends = refl;
-        same_features = refl;
-        same_children = refl;
+        answers =
+            answers_on going.answers (omega arith) read (omega (arith, length-set replies k v))
+            (from_sheet s sizes held going.restored going.answers.variables told) number;
+        restored = restored_then going.restored restored;
       }
-
-  module _ {t ends group_features group_children queue : List ℕ} {left : ℕ} {cursor : Cursor} {k : ℕ}
-      {replies : List ℕ}
-      (g : Going s n closed subjects features children starts ends₀ features₀ children₀ counts labels spread
-      t ends group_features group_children queue left cursor k replies) where
-    -- what is told of the statements is told of the sheet
-    from_sheet : {q : Query} {r : Reply}
-        → ReplyTold n (Held n closed subjects features children starts ends group_features group_children counts labels)
-        q r
-        → r ≡ reply_to (sheet_of s) q
-    from_sheet {q} {r} told =
-        subst (λ m. r ≡ reply_to (sheet m (sheet_of s).stated (sheet_of s).asked) q) (sym g.answers.variables)
-        (told.told (sheet_of s).stated (sheet_of s).asked
-        (rw (g.same_ends, g.same_features, g.same_children) g.held))
-
-    pub going_next : {t' ends' features' children' queue' : List ℕ} {q : Question} {next : Cursor} {r : Reply} {v : ℕ}
-        → 0 < left → question_at s n cursor ≡ QuestionRead.Asks q next
-        → ReplyTold n (Held n closed subjects features children starts ends group_features group_children counts labels)
-        (query_of q) r
-        → v ≡ reply_number r → t' ≡ closed
-        → Restored ends group_features group_children ends' features' children' queue'
-        → Going s n closed subjects features children starts ends₀ features₀ children₀ counts labels spread
-        t' ends' features' children' queue' (left - 1) next (k + 1) (set replies k v)
-    going_next {t'} {queue' = queue'} more read told number copied restored =
-        record {
-          answers = answers_next g.answers more read (from_sheet told) number;
-          replying =
-              record {
-                answerable = with_queue t' queue' g.replying.answerable copied restored.room;
-                selections = g.replying.selections;
-                single = g.replying.single;
-              };
-          held = g.held;
-          same_ends = restored.same_ends ∙ g.same_ends;
-          same_features = restored.same_features ∙ g.same_features;
-          same_children = restored.same_children ∙ g.same_children;
-        }

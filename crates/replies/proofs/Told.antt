@@ -11,31 +11,27 @@ use Rattle.rules.specs.Tables.{facts}
 use Rattle.rules.specs.Derived.{facts_of}
 use Rattle.rules.specs.Support.{supported}
 use Rattle.rules.specs.Replies.{reply_by}
+use Rattle.selections.specs.declared.grouped.Groups.{Groups}
 use Rattle.answers.specs.Supports.{SupportTold}
+use Rattle.closure.specs.declared.closed.Closed.{Closed}
+use Rattle.closure.specs.Making.{table_of, spreads_of}
 use Rattle.closure.specs.Trials.{Standing, Tried}
 use Rattle.replies.specs.Replying.{Held, ReplyTold}
 
-module _ {n : ℕ} {closed subjects features children : List ℕ}
-    {starts ends group_features group_children counts labels : List ℕ} {q : Statement} {supports : Bool}
-    (told : SupportTold n closed subjects features children counts labels q supports) where
-  support_is : (st : List Statement)
-      → Held n closed subjects features children starts ends group_features group_children counts labels st
-      → supports ≡ supported st (facts_of st n) q
+module _ {n m : ℕ} (same : m ≡ n) (c : Closed) (groups : Groups) {q : Statement} {supports : Bool}
+    (told : SupportTold m (table_of c) c.selections.now (spreads_of c) q supports) where
+  support_is : (st : List Statement) → Held n c groups st → supports ≡ supported st (facts_of st n) q
   support_is st held =
-      told.told st held.listed held.standing.labelled
+      (rw same at told).told st held.listed held.standing.labelled
       ∙ ap (λ t. supported st (facts n t) q) held.standing.derives
 
-  pub always_told : supports ≡ true → ReplyTold n
-      (Held n closed subjects features children starts ends group_features group_children counts labels) (holds q)
-      Reply.Always
+  pub always_told : supports ≡ true → ReplyTold n (Held n c groups) (holds q) Reply.Always
   unfolding reply_by
   always_told found = record { told = λ st asked held. chosen _ _ _ (sym (support_is st held) ∙ found) refl }
 
   module _ {clash : Bool} (no : supports ≡ false)
-      (tried : Tried n (Standing n closed starts ends group_features group_children counts labels) q clash) where
-    pub never_told : clash ≡ true → ReplyTold n
-        (Held n closed subjects features children starts ends group_features group_children counts labels) (holds q)
-        Reply.Never
+      (tried : Tried n (Standing n (table_of c) groups (spreads_of c)) q clash) where
+    pub never_told : clash ≡ true → ReplyTold n (Held n c groups) (holds q) Reply.Never
     unfolding reply_by
     never_told found =
         record {
@@ -44,9 +40,7 @@ module _ {n : ℕ} {closed subjects features children : List ℕ}
               (chosen _ _ _ (sym (tried.answer st held.standing) ∙ found) refl);
         }
 
-    pub open_told : clash ≡ false → ReplyTold n
-        (Held n closed subjects features children starts ends group_features group_children counts labels) (holds q)
-        Reply.Open
+    pub open_told : clash ≡ false → ReplyTold n (Held n c groups) (holds q) Reply.Open
     unfolding reply_by
     open_told free =
         record {

@@ -1,41 +1,42 @@
 -- When questions can be replied to, and what the replies are.
-use Rattle.std.specs.Prelude.{ℕ, length, List, ◌≡◌}
-use Rattle.fields.specs.declared.numbers.Cursor.{Cursor}
-use Rattle.headers.specs.declared.headers.Header.{Header}
+use Rattle.std.specs.Prelude.{ℕ, length, List, [], Ok, None, ◌≡◌}
 use Rattle.headers.specs.Headers.{reply_count}
 use Rattle.items.specs.declared.items.Statement.{Statement}
 use Rattle.items.specs.Questions.{Query}
-use Rattle.sheet.specs.declared.whole.SheetRead.{SheetRead}
+use Rattle.sheet.specs.declared.whole.Accepted.{Accepted}
 use Rattle.sheet.specs.Sheets.{sheet, read_sheet}
-use Rattle.rules.specs.declared.clashes.Clash.{Clash}
 use Rattle.rules.specs.declared.replies.Reply.{Reply}
 use Rattle.rules.specs.Replies.{reply_to}
+use Rattle.facts.specs.declared.growth.Growth.{Growth}
+use Rattle.selections.specs.declared.grouped.Groups.{Groups}
 use Rattle.selections.specs.Listed.{Selections, Listed}
 use Rattle.selections.specs.Stands.{SelectionsStand}
-use Rattle.labels.specs.declared.spread.Spread.{Spread}
 use Rattle.answers.specs.Supports.{SingleLabels}
-use Rattle.closure.specs.Trials.{Standing}
-use Rattle.closure.specs.Making.{Answerable}
+use Rattle.closure.specs.declared.closed.Closed.{Closed}
+use Rattle.closure.specs.Trials.{Trying, Standing}
+use Rattle.closure.specs.Making.{variables_of, table_of, spreads_of, IsTold}
 
--- a closed table in which nothing clashes, with a copy; the selection list, its groups, and the labels
-pub record Replying (n : ℕ) (closed t queue subjects features children : List ℕ)
-    (starts ends group_features group_children counts labels : List ℕ) (spread : Spread) : Type 0 where
-  pub answerable : Answerable n closed t queue starts ends group_features group_children counts labels Clash.Nowhere
-      spread
-  pub selections : Selections n subjects features children
-  pub single : SingleLabels n counts
+-- closed statements that do not clash, a growth with a copy of their table and an empty queue, and their groups
+pub record Replying (c : Closed) (g : Growth) (groups : Groups) : Type 0 where
+  pub sizes : variables_of c ≡ g.n
+  pub copied : g.cells.now ≡ table_of c
+  pub empty : g.queue.now.items ≡ []
+  pub trying : Trying g.n (table_of c) groups
+  pub told : IsTold c
+  pub consistent : c.clash ≡ None
+  pub selections : Selections g.n c.selections.now
+  pub single : SingleLabels g.n (spreads_of c)
 
 -- statements that stand in these, and of which the closed table is derived
-pub record Held (n : ℕ) (closed subjects features children starts ends group_features group_children : List ℕ)
-    (counts labels : List ℕ) (st : List Statement) : Type 0 where
-  pub standing : Standing n closed starts ends group_features group_children counts labels st
-  pub listed : SelectionsStand n st (Listed subjects features children)
+pub record Held (n : ℕ) (c : Closed) (groups : Groups) (st : List Statement) : Type 0 where
+  pub standing : Standing n (table_of c) groups (spreads_of c) st
+  pub listed : SelectionsStand n st (Listed c.selections.now)
 
 -- whatever statements they are among some, r is the reply of the sheet that states them
 pub record ReplyTold (n : ℕ) (Some : List Statement → Type 0) (q : Query) (r : Reply) : Type 0 where
   pub told : (st : List Statement) (asked : List Query) → Some st → r ≡ reply_to (sheet n st asked) q
 
 -- an accepted sheet, and as many reply bytes as it has questions
-pub record Asked (s : List ℕ) (h : Header) (asked : Cursor) (replies : List ℕ) : Type 0 where
-  pub accepted : read_sheet s ≡ SheetRead.Accepted h asked
-  pub room : length replies ≡ reply_count h
+pub record Asked (s : List ℕ) (a : Accepted) (replies : List ℕ) : Type 0 where
+  pub accepted : read_sheet s ≡ Ok a
+  pub room : length replies ≡ reply_count a.header

@@ -6,112 +6,38 @@ ghost use Rattle.closure.specs.Trials.{Restored};
 ghost use Rattle.replies.specs.Replying.{Replying, Held, ReplyTold};
 
 use answers::supports;
-use closure::trial;
-use fields::MOST_VARIABLES;
+use closure::{Closed, trial};
+use facts::Growth;
 use items::{Question, Statement};
-use labels::Spread;
-use rules::{Clash, Reply};
-use selections::PLACES;
-use table::ROOM;
+use rules::Reply;
+use selections::Groups;
 
 // The reply to whether x holds.
-fn reply_statement(
-    closed: &[u8],
-    t: &mut [u8],
-    n: usize,
-    spread: Spread,
-    x: Statement,
-    subjects: &[u8],
-    features: &[u16],
-    children: &[u8],
-    starts: &[usize; MOST_VARIABLES],
-    ends: &mut [usize; MOST_VARIABLES],
-    group_features: &mut [u16; PLACES],
-    group_children: &mut [u8; PLACES],
-    counts: &[u8; MOST_VARIABLES],
-    labels: &[u16; MOST_VARIABLES],
-    queue: &mut [u16; ROOM],
-) -> Reply
-    requires replying { Replying n closed.now t.old queue.old subjects.now features.now children.now starts.now
-        ends.old group_features.old group_children.old counts.now labels.now spread }
-    requires names { Names n x }
-    ensures told { ReplyTold n
-        (Held n closed.now subjects.now features.now children.now starts.now ends.old group_features.old
-        group_children.old counts.now labels.now)
+fn reply_statement(closed: &Closed, growth: &mut Growth, groups: &mut Groups, x: Statement) -> Reply
+    requires replying { Replying closed.now growth.old groups.old }
+    requires names { Names growth.old.n x }
+    ensures told { ReplyTold growth.old.n (Held growth.old.n closed.now groups.old)
         (holds x) result }
-    ensures copied { t.new ≡ closed.now }
-    ensures restored { Restored ends.old group_features.old group_children.old ends.new group_features.new
-        group_children.new queue.new }
+    ensures restored { Restored growth.old growth.new groups.old groups.new }
 {
-    if supports(closed, n, subjects, features, children, counts, labels, x) {
+    if supports(closed.table, closed.selections, closed.labels, x) {
         return Reply::Always;
     }
-    if trial(
-        closed,
-        t,
-        n,
-        Clash::Nowhere,
-        spread,
-        x,
-        starts,
-        ends,
-        group_features,
-        group_children,
-        counts,
-        labels,
-        queue,
-    ) {
+    if trial(closed, growth, groups, x) {
         return Reply::Never;
     }
     Reply::Open
 }
 
-// The reply to a question; the second table and the groups are then as they were.
-pub fn reply(
-    closed: &[u8],
-    t: &mut [u8],
-    n: usize,
-    spread: Spread,
-    question: Question,
-    subjects: &[u8],
-    features: &[u16],
-    children: &[u8],
-    starts: &[usize; MOST_VARIABLES],
-    ends: &mut [usize; MOST_VARIABLES],
-    group_features: &mut [u16; PLACES],
-    group_children: &mut [u8; PLACES],
-    counts: &[u8; MOST_VARIABLES],
-    labels: &[u16; MOST_VARIABLES],
-    queue: &mut [u16; ROOM],
-) -> Reply
-    requires replying { Replying n closed.now t.old queue.old subjects.now features.now children.now starts.now
-        ends.old group_features.old group_children.old counts.now labels.now spread }
-    requires names { Asks n (query_of question) }
-    ensures told { ReplyTold n
-        (Held n closed.now subjects.now features.now children.now starts.now ends.old group_features.old
-        group_children.old counts.now labels.now)
+// The reply to a question; table, queue and groups are then as they were.
+pub fn reply(closed: &Closed, growth: &mut Growth, groups: &mut Groups, question: Question) -> Reply
+    requires replying { Replying closed.now growth.old groups.old }
+    requires names { Asks growth.old.n (query_of question) }
+    ensures told { ReplyTold growth.old.n (Held growth.old.n closed.now groups.old)
         (query_of question) result }
-    ensures copied { t.new ≡ closed.now }
-    ensures restored { Restored ends.old group_features.old group_children.old ends.new group_features.new
-        group_children.new queue.new }
+    ensures restored { Restored growth.old growth.new groups.old groups.new }
 {
     match question {
-        Question::Holds(x) => reply_statement(
-            closed,
-            t,
-            n,
-            spread,
-            x,
-            subjects,
-            features,
-            children,
-            starts,
-            ends,
-            group_features,
-            group_children,
-            counts,
-            labels,
-            queue,
-        ),
+        Question::Holds(x) => reply_statement(closed, growth, groups, x),
     }
 }

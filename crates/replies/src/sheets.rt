@@ -6,73 +6,34 @@ ghost use Rattle.closure.specs.Trials.{Restored};
 ghost use Rattle.replies.specs.Replying.{Replying, Held, Asked};
 
 use crate::reply::reply;
-use fields::{Cursor, MOST_VARIABLES};
-use headers::Header;
-use items::{QuestionRead, read_question};
-use labels::Spread;
-use selections::PLACES;
-use table::ROOM;
+use closure::Closed;
+use facts::Growth;
+use items::read_question;
+use selections::Groups;
+use sheet::Accepted;
 
-// Writes one reply a question; the second table and the groups are then as they were.
+// Writes one reply a question; table, queue and groups are then as they were.
 pub fn reply_all(
     sheet: &[u8],
-    header: Header,
-    asked: Cursor,
-    closed: &[u8],
-    t: &mut [u8],
-    spread: Spread,
-    subjects: &[u8],
-    features: &[u16],
-    children: &[u8],
-    starts: &[usize; MOST_VARIABLES],
-    ends: &mut [usize; MOST_VARIABLES],
-    group_features: &mut [u16; PLACES],
-    group_children: &mut [u8; PLACES],
-    counts: &[u8; MOST_VARIABLES],
-    labels: &[u16; MOST_VARIABLES],
-    queue: &mut [u16; ROOM],
+    accepted: Accepted,
+    closed: &Closed,
+    growth: &mut Growth,
+    groups: &mut Groups,
     replies: &mut [u8],
 )
-    requires asked { Asked sheet.now header asked replies.old }
-    requires replying { Replying header.variables closed.now t.old queue.old subjects.now features.now children.now
-        starts.now ends.old group_features.old group_children.old counts.now labels.now spread }
-    requires held { Held header.variables closed.now subjects.now features.now children.now starts.now ends.old
-        group_features.old group_children.old counts.now labels.now (sheet_of sheet.now).stated }
+    requires asked { Asked sheet.now accepted replies.old }
+    requires sizes { growth.old.n ≡ accepted.header.variables }
+    requires replying { Replying closed.now growth.old groups.old }
+    requires held { Held accepted.header.variables closed.now groups.old (sheet_of sheet.now).stated }
     ensures written { replies.new ≡ map reply_number (replies_of (sheet_of sheet.now)) }
-    ensures copied { t.new ≡ closed.now }
-    ensures restored { Restored ends.old group_features.old group_children.old ends.new group_features.new
-        group_children.new queue.new }
+    ensures restored { Restored growth.old growth.new groups.old groups.new }
 {
-    let n = header.variables;
-    let mut left = header.questions;
-    let mut cursor = asked;
-    let mut k: usize = 0;
-    while 0 < left {
-        match read_question(sheet, n, cursor) {
-            QuestionRead::Asks(question, next) => {
-                let answer = reply(
-                    closed,
-                    t,
-                    n as usize,
-                    spread,
-                    question,
-                    subjects,
-                    features,
-                    children,
-                    starts,
-                    ends,
-                    group_features,
-                    group_children,
-                    counts,
-                    labels,
-                    queue,
-                );
-                replies[k] = answer.number();
-                cursor = next;
-                left -= 1;
-                k += 1;
-            }
-            QuestionRead::Refused(_) => return,
-        }
+    let mut cursor = accepted.asked;
+    for place in replies.iter_mut() {
+        let Ok(question) = read_question(sheet, accepted.header.variables, cursor) else {
+            return;
+        };
+        *place = u8::from(reply(closed, growth, groups, question.value));
+        cursor = question.next;
     }
 }

@@ -21,9 +21,9 @@ pub table_holds : AllWorked table
 unfolding table worked counts_of labels_from ◌and◌ ◌or◌ Tests.less Tests.same Tests.pick Tests.has
     Refusals.ends Refusals.bad_header_map Refusals.bad_variable_count Refusals.bad_count Refusals.several_bits
     Refusals.bad_item_map Refusals.bad_variable Refusals.remain
-    Fields.word Fields.byte_field Fields.word_field Fields.variable_field Fields.word_if Fields.variable_if
+    Fields.word Fields.byte_field Fields.word_field Fields.variable_field Fields.field_if
     Headers.header_map Headers.variable_count Headers.count_field Headers.count_if Headers.header_of
-    Items.map_field Items.fields_at Items.item_at Items.items_end Items.items_of
+    Items.map_field Items.edge_field Items.label_field Items.fields_at Items.item_at Items.items_end Items.items_of
     Statements.statements_of Statements.statement_of Questions.question_of Sheets.body_of Sheets.read_sheet Sheets.sheet_at Sheets.sheet_of
     Stated.any Stated.any_below Stated.first_label
     Stated.some_ordering Stated.some_compatibility Stated.some_selection Stated.some_labelling

@@ -6,7 +6,8 @@ use mathlib.Core.Logic.{◌↔◌}
 use mathlib.Core.Path.{◌≡◌, refl, sym, ap, ap₂, subst}
 use borrow.Author.Tests.{not-true}
 use native.Mathlib.Omega.{arith}
-use Rattle.fields.specs.Fields.{variable}
+use Rattle.std.specs.Option.{option_or}
+use Rattle.std.specs.Prelude.{Option, None, Some, is_some}
 use Rattle.fields.specs.Tests.{less, same, pick}
 use Rattle.fields.proofs.Choice.{is_same, not_same, same_true, same_false, less_true, less_false}
 use Rattle.items.specs.declared.items.Statement.{Statement}
@@ -14,7 +15,7 @@ use Rattle.rules.specs.declared.clashes.Clash.{Clash}
 use Rattle.rules.specs.Stated.{labelling, Stated}
 use Rattle.rules.specs.Facts.{Relation}
 use Rattle.rules.specs.Derived.{facts_of}
-use Rattle.rules.specs.Clashes.{labels_differ, clashes_at, clash_in_row, or_else, clash_in_rows, clash_of, is_clash}
+use Rattle.rules.specs.Clashes.{labels_differ, clashes_at, clash_between, clash_in_row, clash_in_rows, clash_of}
 use Rattle.rules.specs.Clashes.{clashes}
 use Rattle.rules.specs.Demand.{LeastClash, NoClash}
 use Rattle.rules.proofs.Logic.{both, first_of_and, second_of_and, decided, contrary, last_or_before}
@@ -46,9 +47,9 @@ abbrev Clear : ℕ → List Statement → Relation → ℕ → Type 0
 Clear n st r i = (y : ℕ) → y < n → clashes_at st r i y ≡ false
 
 -- what is told: that some rows are clear, or the least clash
-abbrev Told : ℕ → List Statement → Relation → Type 0 → Clash → Type 0
-Told n st r none Clash.Nowhere = none
-Told n st r none (Clash.Between x y) = LeastClash st r n x.0 y.0
+abbrev Told : ℕ → List Statement → Relation → Type 0 → Option Clash → Type 0
+Told n st r none None = none
+Told n st r none (Some c) = LeastClash st r n c.first.0 c.second.0
 
 -- a row from column j on, rows from row i on, and all of them, where there is no clash before
 module _ (n : ℕ) (st : List Statement) (r : Relation) where
@@ -67,10 +68,10 @@ module _ (n : ℕ) (st : List Statement) (r : Relation) where
       }))
       (λ p. rw p (row_told i h above left (suc j) (omega arith) (up_to (λ y. clashes_at st r i y ≡ false) j before p)))
 
-  or_later : (i : ℕ) (c later : Clash) → Told n st r (Clear n st r i) c
-      → (Clear n st r i → Told n st r (NoClash st r n) later) → Told n st r (NoClash st r n) (or_else c later)
-  or_later i Clash.Nowhere later t next = next t
-  or_later i (Clash.Between x y) later t next = t
+  or_later : (i : ℕ) (c later : Option Clash) → Told n st r (Clear n st r i) c
+      → (Clear n st r i → Told n st r (NoClash st r n) later) → Told n st r (NoClash st r n) (option_or c later)
+  or_later i None later t next = next t
+  or_later i (Some pair) later t next = t
 
   rows_told : (left i : ℕ) → left + i ≡ n → ((x : ℕ) → x < i → Clear n st r x)
       → Told n st r (NoClash st r n) (clash_in_rows left i n st r)
@@ -101,43 +102,43 @@ module _ (n : ℕ) (st : List Statement) (r : Relation) where
       (e, omega (arith, column_first i j y a (rw e b.applies), column_first x y j b (rw (← e) a.applies)))
 
   -- what is told is what holds
-  least_told : (i j : ℕ) (c : Clash) → Told n st r (NoClash st r n) c → LeastClash st r n i j
-      → c ≡ Clash.Between (variable i) (variable j)
-  least_told i j Clash.Nowhere t a = absurd (contrary a.applies (t i j a.row a.column))
-  least_told i j (Clash.Between x y) t a =
-      let e = one_least x.0 y.0 i j t a in
-      ap₂ (λ k m. Clash.Between (variable k) (variable m)) e.0 e.1
+  least_told : (i j : ℕ) (c : Option Clash) → Told n st r (NoClash st r n) c → LeastClash st r n i j
+      → c ≡ Some (clash_between i j)
+  least_told i j None t a = absurd (contrary a.applies (t i j a.row a.column))
+  least_told i j (Some c) t a =
+      let e = one_least c.first.0 c.second.0 i j t a in
+      ap₂ (λ k m. Some (clash_between k m)) e.0 e.1
 
-  none_told : (c : Clash) → Told n st r (NoClash st r n) c → NoClash st r n → c ≡ Clash.Nowhere
-  none_told Clash.Nowhere t a = refl
-  none_told (Clash.Between x y) t a = absurd (contrary t.applies (a x.0 y.0 t.row t.column))
+  none_told : (c : Option Clash) → Told n st r (NoClash st r n) c → NoClash st r n → c ≡ None
+  none_told None t a = refl
+  none_told (Some c) t a = absurd (contrary t.applies (a c.first.0 c.second.0 t.row t.column))
 
   -- the search in all rows tells a pair just where it is the least, and nowhere just where there is none
   pub between_least : (i j : ℕ)
-      → (clash_in_rows n 0 n st r ≡ Clash.Between (variable i) (variable j)) ↔ LeastClash st r n i j
+      → (clash_in_rows n 0 n st r ≡ Some (clash_between i j)) ↔ LeastClash st r n i j
   between_least i j = ((λ e. subst (Told n st r (NoClash st r n)) e told), least_told i j (clash_in_rows n 0 n st r) told)
 
-  pub nowhere_none : (clash_in_rows n 0 n st r ≡ Clash.Nowhere) ↔ NoClash st r n
+  pub nowhere_none : (clash_in_rows n 0 n st r ≡ None) ↔ NoClash st r n
   nowhere_none = ((λ e. subst (Told n st r (NoClash st r n)) e told), none_told (clash_in_rows n 0 n st r) told)
 
 -- a clash by its test
-not_clash : (c : Clash) → is_clash c ≡ false → c ≡ Clash.Nowhere
-not_clash Clash.Nowhere e = refl
-not_clash (Clash.Between x y) e = absurd (true≢false e)
+not_clash : (c : Option Clash) → is_some c ≡ false → c ≡ None
+not_clash None e = refl
+not_clash (Some pair) e = absurd (true≢false e)
 
-is_clash_lem : {C : Type 0} (c : Clash) → is_clash c ≡ true
-    → ((i j : ℕ) → c ≡ Clash.Between (variable i) (variable j) → C) → C
-is_clash_lem Clash.Nowhere e next = absurd (false≢true e)
-is_clash_lem (Clash.Between x y) e next = next x.0 y.0 refl
+is_clash_lem : {C : Type 0} (c : Option Clash) → is_some c ≡ true
+    → ((i j : ℕ) → c ≡ Some (clash_between i j) → C) → C
+is_clash_lem None e next = absurd (false≢true e)
+is_clash_lem (Some c) e next = next c.first.0 c.second.0 refl
 
 -- the clash of the derived facts
 module _ (st : List Statement) (n : ℕ) where
   pub clash_least : (i j : ℕ)
-      → (clash_of st n ≡ Clash.Between (variable i) (variable j)) ↔ LeastClash st (facts_of st n) n i j
+      → (clash_of st n ≡ Some (clash_between i j)) ↔ LeastClash st (facts_of st n) n i j
   unfolding clash_of
   clash_least i j = between_least n st (facts_of st n) i j
 
-  pub clash_nowhere : (clash_of st n ≡ Clash.Nowhere) ↔ NoClash st (facts_of st n) n
+  pub clash_nowhere : (clash_of st n ≡ None) ↔ NoClash st (facts_of st n) n
   unfolding clash_of
   clash_nowhere = nowhere_none n st (facts_of st n)
 

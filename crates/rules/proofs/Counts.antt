@@ -6,7 +6,8 @@ use native.Mathlib.Nat.{suc-mul}
 use native.Mathlib.Omega.{arith}
 use Rattle.fields.specs.Tests.{pick}
 use Rattle.fields.proofs.Choice.{pick_most}
-use Rattle.rules.specs.Facts.{Kind, Relation, Holds, Within}
+use Rattle.rules.specs.declared.kinds.Kind.{Kind}
+use Rattle.rules.specs.Facts.{Relation, Holds, Within}
 use Rattle.rules.specs.Tables.{count_passing, count_row, count_rows, count_facts}
 use Rattle.rules.proofs.Logic.{last_or_before}
 

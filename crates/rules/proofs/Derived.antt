@@ -5,7 +5,8 @@ use mathlib.Core.Path.{◌≡◌}
 use native.Mathlib.Omega.{arith}
 use Rattle.items.specs.declared.items.Statement.{Statement}
 use Rattle.items.specs.Statements.{AllName}
-use Rattle.rules.specs.Facts.{Kind, Holds, Into, Within, Closed}
+use Rattle.rules.specs.declared.kinds.Kind.{Kind}
+use Rattle.rules.specs.Facts.{Holds, Into, Within, Closed}
 use Rattle.rules.specs.Tables.{facts, table_bytes, Shape}
 use Rattle.rules.specs.Derived.{next_table, derived, facts_of}
 use Rattle.rules.specs.Demand.{Derives}

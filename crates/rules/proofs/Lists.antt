@@ -6,7 +6,8 @@ use mathlib.Core.Path.{refl, sym, subst}
 use native.Mathlib.Omega.{arith}
 use Rattle.items.specs.declared.items.Statement.{Statement}
 use Rattle.items.specs.Statements.{All, Names, AllName}
-use Rattle.rules.specs.Facts.{Kind, ordered, compatible, fact}
+use Rattle.rules.specs.declared.kinds.Kind.{Kind}
+use Rattle.rules.specs.Facts.{fact}
 use Rattle.rules.specs.Stated.{Stated}
 
 -- a list has a property where each of its statements does
@@ -48,8 +49,8 @@ named n st fit m = all_one (Names n) st fit m
 
 pub named_fact : (n : ℕ) (st : List Statement) → AllName n st → (kind : Kind) (i j : ℕ) → Stated st (fact kind i j)
     → (i < n) × (j < n)
-named_fact n st fit ordered i j m = named n st fit m
-named_fact n st fit compatible i j m = named n st fit m
+named_fact n st fit Kind.Ordered i j m = named n st fit m
+named_fact n st fit Kind.Compatible i j m = named n st fit m
 
 -- below n is below any larger number
 pub names_more : {n n' : ℕ} → n ≤ n' → (q : Statement) → Names n q → Names n' q

@@ -7,7 +7,8 @@ use Rattle.fields.specs.Tests.{less}
 use Rattle.fields.proofs.Choice.{less_true, less_false}
 use Rattle.items.specs.declared.items.Statement.{Statement}
 use Rattle.items.specs.Statements.{AllName}
-use Rattle.rules.specs.Facts.{Kind, ordered, compatible, Holds, Into, Within, Closed}
+use Rattle.rules.specs.declared.kinds.Kind.{Kind}
+use Rattle.rules.specs.Facts.{Holds, Into, Within, Closed}
 use Rattle.rules.specs.Tables.{facts, Shape, count_facts}
 use Rattle.rules.specs.Derived.{round, next_table, rounds}
 use Rattle.rules.proofs.Logic.{decided, same_tests}
@@ -19,7 +20,7 @@ use Rattle.rules.proofs.Rules.{gives_child}
 
 -- how many facts a table has, of both kinds
 abbrev size_of : ℕ → List ℕ → ℕ
-size_of n t = count_facts n (facts n t) ordered + count_facts n (facts n t) compatible
+size_of n t = count_facts n (facts n t) Kind.Ordered + count_facts n (facts n t) Kind.Compatible
 
 -- rounds from facts of a closed set give facts of that set
 module _ (n : ℕ) (st : List Statement) (R : Kind → ℕ → ℕ → Type 0) (closed : Closed n st R) where
@@ -49,8 +50,8 @@ module _ (st : List Statement) (n : ℕ) where
 
   no_more : (t : List ℕ) → size_of n (next_table st n t) ≤ size_of n t → (kind : Kind)
       → count_facts n (facts n (next_table st n t)) kind ≤ count_facts n (facts n t) kind
-  no_more t s ordered = omega (arith, count_most n _ _ (next_grows t) compatible)
-  no_more t s compatible = omega (arith, count_most n _ _ (next_grows t) ordered)
+  no_more t s Kind.Ordered = omega (arith, count_most n _ _ (next_grows t) Kind.Compatible)
+  no_more t s Kind.Compatible = omega (arith, count_most n _ _ (next_grows t) Kind.Ordered)
 
   settled : (t : List ℕ) → Shape n t → size_of n (next_table st n t) ≤ size_of n t → next_table st n t ≡ t
   settled t shape s =
@@ -69,8 +70,8 @@ module _ (st : List Statement) (n : ℕ) where
   settles zero t shape b =
       settled t shape (omega (
         arith,
-        count_bound n (facts n (next_table st n t)) ordered,
-        count_bound n (facts n (next_table st n t)) compatible,
+        count_bound n (facts n (next_table st n t)) Kind.Ordered,
+        count_bound n (facts n (next_table st n t)) Kind.Compatible,
       ))
   settles (suc m) t shape b =
       decided (less (size_of n t) (size_of n (next_table st n t)))
@@ -91,10 +92,10 @@ module _ (n : ℕ) (st : List Statement) (t : List ℕ) (names : AllName n st) (
             let b = named_fact n st names kind i j m in given kind i j b.0 b.1 (gives_stated st n _ kind i j m);
         reflexive = λ kind i h. given kind i i h h (gives_same st n _ kind i);
         through = λ kind i j k p q.
-            given kind i k (fact_row n t ordered i j p) (fact_column n t kind j k q)
-            (gives_through st n _ kind i j k (fact_column n t ordered i j p) p q);
+            given kind i k (fact_row n t Kind.Ordered i j p) (fact_column n t kind j k q)
+            (gives_through st n _ kind i j k (fact_column n t Kind.Ordered i j p) p q);
         symmetric = λ i j p.
-            given compatible j i (fact_column n t compatible i j p) (fact_row n t compatible i j p)
+            given Kind.Compatible j i (fact_column n t Kind.Compatible i j p) (fact_row n t Kind.Compatible i j p)
             (gives_turned st n _ i j p);
         descends = λ kind f i i' j j' m p o.
             given kind i' j' (named n st names m).1 (named n st names o).1

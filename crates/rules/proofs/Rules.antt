@@ -8,7 +8,8 @@ use Rattle.fields.proofs.Choice.{is_same, same_true}
 use Rattle.items.specs.declared.items.Statement.{Statement}
 use Rattle.rules.specs.Connectives.{◌and◌, ◌or◌}
 use Rattle.rules.specs.Stated.{selection, Stated}
-use Rattle.rules.specs.Facts.{Kind, ordered, compatible, fact, Relation, Holds, Into, Closed}
+use Rattle.rules.specs.declared.kinds.Kind.{Kind}
+use Rattle.rules.specs.Facts.{fact, Relation, Holds, Into, Closed}
 use Rattle.rules.specs.Derived.{is_stated, passes, turns, descends, round}
 use Rattle.rules.proofs.Logic.{both, first_of_and, second_of_and, either_first, either_second, either_of}
 use Rattle.rules.proofs.Some.{below_by, below_one, by_ordering, by_compatibility, by_selection, one_ordering}
@@ -24,15 +25,15 @@ pair_of R i j x y q s = rw (same_true i x (first_of_and _ _ q), same_true j y (s
 -- the fact is stated just where the test says so
 fact_stated : (st : List Statement) (kind : Kind) (i j : ℕ) → Stated st (fact kind i j) → is_stated st kind i j ≡ true
 unfolding is_stated
-fact_stated st ordered i j m = by_ordering _ m (is_pair i j)
-fact_stated st compatible i j m = by_compatibility _ m (is_pair i j)
+fact_stated st Kind.Ordered i j m = by_ordering _ m (is_pair i j)
+fact_stated st Kind.Compatible i j m = by_compatibility _ m (is_pair i j)
 
 stated_fact : (st : List Statement) (kind : Kind) (i j : ℕ) → is_stated st kind i j ≡ true → Stated st (fact kind i j)
 unfolding is_stated
-stated_fact st ordered i j p =
-    one_ordering st _ p λ x y m q. pair_of (λ a b. Stated st (fact ordered a b)) i j x y q m
-stated_fact st compatible i j p =
-    one_compatibility st _ p λ x y m q. pair_of (λ a b. Stated st (fact compatible a b)) i j x y q m
+stated_fact st Kind.Ordered i j p =
+    one_ordering st _ p λ x y m q. pair_of (λ a b. Stated st (fact Kind.Ordered a b)) i j x y q m
+stated_fact st Kind.Compatible i j p =
+    one_compatibility st _ p λ x y m q. pair_of (λ a b. Stated st (fact Kind.Compatible a b)) i j x y q m
 
 -- a round gives what held, and by each rule what follows from it
 module _ (st : List Statement) (n : ℕ) (r : Relation) where
@@ -55,14 +56,14 @@ module _ (st : List Statement) (n : ℕ) (r : Relation) where
   unfolding round
   gives kind i j p = either_second (r kind i j) (either_second (same i j) (either_second (is_stated st kind i j) p))
 
-  pub gives_through : (kind : Kind) (i j k : ℕ) → j < n → Holds r ordered i j → Holds r kind j k
+  pub gives_through : (kind : Kind) (i j k : ℕ) → j < n → Holds r Kind.Ordered i j → Holds r kind j k
       → Holds (round st n r) kind i k
   unfolding passes
   gives_through kind i j k h p q = gives kind i k (either_first _ (below_by _ n j h (both p q)))
 
-  pub gives_turned : (i j : ℕ) → Holds r compatible i j → Holds (round st n r) compatible j i
+  pub gives_turned : (i j : ℕ) → Holds r Kind.Compatible i j → Holds (round st n r) Kind.Compatible j i
   unfolding turns
-  gives_turned i j p = gives compatible j i (either_second (passes n r compatible j i) (either_first _ p))
+  gives_turned i j p = gives Kind.Compatible j i (either_second (passes n r Kind.Compatible j i) (either_first _ p))
 
   pub gives_child : (kind : Kind) (f i i' j j' : ℕ) → Stated st (selection i f i') → Holds r kind i j
       → Stated st (selection j f j') → Holds (round st n r) kind i' j'
@@ -79,12 +80,13 @@ module _ (n : ℕ) (st : List Statement) (R : Kind → ℕ → ℕ → Type 0) (
   unfolding passes
   passes_within kind i j p =
       below_one n _ p λ k h q.
-      closed.through kind i k j (within ordered i k (first_of_and _ _ q)) (within kind k j (second_of_and (r ordered i k) _ q))
+      closed.through kind i k j (within Kind.Ordered i k (first_of_and _ _ q))
+      (within kind k j (second_of_and (r Kind.Ordered i k) _ q))
 
   turns_within : (kind : Kind) (i j : ℕ) → turns r kind i j ≡ true → R kind i j
   unfolding turns
-  turns_within ordered i j p = absurd (false≢true p)
-  turns_within compatible i j p = closed.symmetric j i (within compatible j i p)
+  turns_within Kind.Ordered i j p = absurd (false≢true p)
+  turns_within Kind.Compatible i j p = closed.symmetric j i (within Kind.Compatible j i p)
 
   descends_within : (kind : Kind) (i j : ℕ) → descends st r kind i j ≡ true → R kind i j
   unfolding descends

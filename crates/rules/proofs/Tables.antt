@@ -10,14 +10,15 @@ use Rattle.fields.specs.Tests.{less}
 use Rattle.fields.proofs.Choice.{is_less, less_true}
 use Rattle.headers.specs.Headers.{size_for}
 use Rattle.rules.specs.Connectives.{◌and◌}
-use Rattle.rules.specs.Facts.{Kind, ordered, compatible, Relation, Holds}
+use Rattle.rules.specs.declared.kinds.Kind.{Kind}
+use Rattle.rules.specs.Facts.{Relation, Holds}
 use Rattle.rules.specs.Tables.{says, cell_of, cell_at, facts, row_of, rows_of, table_of, table_bytes, Shape}
 use Rattle.rules.proofs.Logic.{first_of_and, second_of_and, contrary}
 use Rattle.rules.proofs.Cells.{said, small_cell, says_nothing, same_cell}
 
 -- the cell that a set of facts has for i and j
 abbrev fact_cell : Relation → ℕ → ℕ → ℕ
-fact_cell r i j = cell_of (r ordered i j) (r compatible i j)
+fact_cell r i j = cell_of (r Kind.Ordered i j) (r Kind.Compatible i j)
 
 -- a row, and rows one behind the other: how long they are, and their cells
 module _ (r : Relation) where

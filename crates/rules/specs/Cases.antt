@@ -1,12 +1,14 @@
 -- Worked cases: bytes of a sheet beside what the definitions must give for them.
-use Rattle.std.specs.Prelude.{ℕ, zero, suc, List, [], ◌∷◌, map, ◌≡◌}
+use Rattle.std.specs.Prelude.{ℕ, zero, suc, List, [], ◌∷◌, map, None, Some, ◌≡◌}
+use Rattle.std.specs.Prelude as Prelude
 use Rattle.std.proofs.Math.Option.{Option, none, some}
 use Rattle.fields.specs.declared.refusals.Refusal.{Refusal}
+use Rattle.fields.specs.Fields.{then_value}
 use Rattle.fields.specs.Refusals.{number_of}
 use Rattle.items.specs.declared.items.Statement.{Statement}
-use Rattle.sheet.specs.Sheets.{Sheet, then_sheet, read_sheet, sheet_of}
+use Rattle.sheet.specs.Sheets.{Sheet, read_sheet, sheet_of}
 use Rattle.rules.specs.declared.clashes.Clash.{Clash}
-use Rattle.rules.specs.Facts.{ordered, compatible}
+use Rattle.rules.specs.declared.kinds.Kind.{Kind}
 use Rattle.rules.specs.Tables.{count_facts}
 use Rattle.rules.specs.Derived.{facts_of}
 use Rattle.rules.specs.Clashes.{clash_of}
@@ -36,15 +38,15 @@ labels_from (suc left) i st = stated_label st i ∷ labels_from left (suc i) st
 -- the numbers of both kinds of fact
 unfoldable pub counts_of : Sheet → Outcome
 counts_of s =
-    consistent (count_facts s.n (facts_of s.stated s.n) ordered)
-    (count_facts s.n (facts_of s.stated s.n) compatible)
+    consistent (count_facts s.n (facts_of s.stated s.n) Kind.Ordered)
+    (count_facts s.n (facts_of s.stated s.n) Kind.Compatible)
 
 -- where no labels clash there are counts and replies
-abbrev pub of_sheet : List ℕ → Sheet → Clash → Case
-of_sheet bytes s Clash.Nowhere =
+abbrev pub of_sheet : List ℕ → Sheet → Prelude.Option Clash → Case
+of_sheet bytes s None =
     row bytes s.n (counts_of s) (labels_from s.n 0 s.stated) (map reply_number (replies_of s))
-of_sheet bytes s (Clash.Between i j) =
-    row bytes s.n (clash i.0 j.0) (labels_from s.n 0 s.stated) []
+of_sheet bytes s (Some pair) =
+    row bytes s.n (clash pair.first.0 pair.second.0) (labels_from s.n 0 s.stated) []
 
 abbrev pub of_accepted : List ℕ → Sheet → Case
 of_accepted bytes s = of_sheet bytes s (clash_of s.stated s.n)
@@ -54,7 +56,7 @@ of_refused bytes r = row bytes 0 (refused (number_of r.fault) r.at) [] []
 
 -- what the definitions give for any bytes
 unfoldable pub worked : List ℕ → Case
-worked bytes = then_sheet (read_sheet bytes) (of_refused bytes) (λ h asked. of_accepted bytes (sheet_of bytes))
+worked bytes = then_value (read_sheet bytes) (of_refused bytes) (λ a. of_accepted bytes (sheet_of bytes))
 
 -- C1 to C12 of the scope, and behind them rows for what those leave unseen; a label is 'none' where the variable has
 -- none, a reply 0 for always, 1 for never, 2 for open

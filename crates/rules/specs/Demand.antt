@@ -1,16 +1,15 @@
 -- Demand 2: the derived facts are the smallest closed set, the clash told is the first there is, and replies are by
 -- support and trial.
-use Rattle.std.specs.Prelude.{ℕ, ◌<◌, Bool, true, false, List, ◌↔◌, ◌≡◌}
-use Rattle.fields.specs.Fields.{variable}
+use Rattle.std.specs.Prelude.{ℕ, ◌<◌, Bool, true, false, List, None, Some, ◌↔◌, ◌≡◌}
 use Rattle.items.specs.declared.items.Statement.{Statement}
 use Rattle.items.specs.Questions.{Query, holds}
 use Rattle.sheet.specs.Sheets.{Sheet}
-use Rattle.rules.specs.declared.clashes.Clash.{Clash}
 use Rattle.rules.specs.declared.replies.Reply.{Reply}
-use Rattle.rules.specs.Facts.{Kind, Relation, Holds, Into, Within, Closed}
+use Rattle.rules.specs.declared.kinds.Kind.{Kind}
+use Rattle.rules.specs.Facts.{Relation, Holds, Into, Within, Closed}
 use Rattle.rules.specs.Tables.{Shape}
 use Rattle.rules.specs.Derived.{derived, facts_of}
-use Rattle.rules.specs.Clashes.{clashes_at, clash_of}
+use Rattle.rules.specs.Clashes.{clash_between, clashes_at, clash_of}
 use Rattle.rules.specs.Replies.{supports, fails_with, reply_to}
 
 -- r is the smallest closed set of facts among those that a test gives
@@ -43,9 +42,9 @@ Replied s (holds x) = Decided (supports s x) (fails_with s x) (reply_to s (holds
 pub record Demand2 (s : Sheet) : Type 0 where
   pub derives : Derives s.n s.stated (facts_of s.stated s.n)
   pub shape : Shape s.n (derived s.stated s.n)
-  pub clash : (i j : ℕ) → (clash_of s.stated s.n ≡ Clash.Between (variable i) (variable j))
+  pub clash : (i j : ℕ) → (clash_of s.stated s.n ≡ Some (clash_between i j))
       ↔ LeastClash s.stated (facts_of s.stated s.n) s.n i j
-  pub no_clash : (clash_of s.stated s.n ≡ Clash.Nowhere)
+  pub no_clash : (clash_of s.stated s.n ≡ None)
       ↔ NoClash s.stated (facts_of s.stated s.n) s.n
   pub replies : (q : Query) → Replied s q
 

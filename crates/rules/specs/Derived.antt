@@ -4,22 +4,23 @@ use Rattle.fields.specs.Tests.{same}
 use Rattle.items.specs.declared.items.Statement.{Statement}
 use Rattle.rules.specs.Connectives.{◌and◌, ◌or◌}
 use Rattle.rules.specs.Stated.{any_below, some_ordering, some_compatibility, some_selection}
-use Rattle.rules.specs.Facts.{ordered, compatible, Relation}
+use Rattle.rules.specs.declared.kinds.Kind.{Kind}
+use Rattle.rules.specs.Facts.{Relation}
 use Rattle.rules.specs.Tables.{facts, table_of}
 
 -- the fact is stated
 unfoldable pub is_stated : List Statement → Relation
-is_stated st ordered i j = some_ordering st (λ x y. same i x and same j y)
-is_stated st compatible i j = some_compatibility st (λ x y. same i x and same j y)
+is_stated st Kind.Ordered i j = some_ordering st (λ x y. same i x and same j y)
+is_stated st Kind.Compatible i j = some_compatibility st (λ x y. same i x and same j y)
 
 -- F1.2, F3.2: through some variable
 unfoldable pub passes : ℕ → Relation → Relation
-passes n r kind i k = any_below n (λ j. r ordered i j and r kind j k)
+passes n r kind i k = any_below n (λ j. r Kind.Ordered i j and r kind j k)
 
 -- F3.3
 unfoldable pub turns : Relation → Relation
-turns r ordered i j = false
-turns r compatible i j = r compatible j i
+turns r Kind.Ordered i j = false
+turns r Kind.Compatible i j = r Kind.Compatible j i
 
 -- F2, F4: i and j are children, at one feature, of two variables so related
 unfoldable pub descends : List Statement → Relation → Relation

@@ -1,16 +1,13 @@
 -- Facts about pairs of variables, and the sets of facts to which rules F1 to F4 add nothing.
 use Rattle.std.specs.Prelude.{ℕ, ◌<◌, Bool, true, List, ◌≡◌}
 use Rattle.items.specs.declared.items.Statement.{Statement}
+use Rattle.rules.specs.declared.kinds.Kind.{Kind}
 use Rattle.rules.specs.Stated.{ordering, compatibility, selection, Stated}
-
--- the two kinds of fact: i ≤ j and i ~ j
-pub data Kind : Type 0 where
-  ordered compatible : Kind
 
 -- the statement of a fact
 abbrev pub fact : Kind → ℕ → ℕ → Statement
-fact ordered i j = ordering i j
-fact compatible i j = compatibility i j
+fact Kind.Ordered i j = ordering i j
+fact Kind.Compatible i j = compatibility i j
 
 -- a set of facts, by a test of each
 abbrev pub Relation : Type 0
@@ -32,9 +29,9 @@ pub record Closed (n : ℕ) (st : List Statement) (R : Kind → ℕ → ℕ → 
   -- F1.1, F3.1
   pub reflexive : (kind : Kind) (i : ℕ) → i < n → R kind i i
   -- F1.2, F3.2: what holds above i holds of i
-  pub through : (kind : Kind) (i j k : ℕ) → R ordered i j → R kind j k → R kind i k
+  pub through : (kind : Kind) (i j k : ℕ) → R Kind.Ordered i j → R kind j k → R kind i k
   -- F3.3
-  pub symmetric : (i j : ℕ) → R compatible i j → R compatible j i
+  pub symmetric : (i j : ℕ) → R Kind.Compatible i j → R Kind.Compatible j i
   -- F2, F4: children at one feature are related as their parents are
   pub descends : (kind : Kind) (f i i' j j' : ℕ)
       → Stated st (selection i f i') → R kind i j → Stated st (selection j f j') → R kind i' j'

@@ -2,12 +2,13 @@
 use Rattle.std.specs.Prelude.{ℕ, zero, suc, ◌+◌, ◌*◌, ◌<◌, Bool, List, [], ◌∷◌, ◌++◌, ◌≡◌, length, get_or}
 use Rattle.fields.specs.Tests.{less, same, pick}
 use Rattle.rules.specs.Connectives.{◌and◌, ◌or◌}
-use Rattle.rules.specs.Facts.{Kind, ordered, compatible, Relation}
+use Rattle.rules.specs.declared.kinds.Kind.{Kind}
+use Rattle.rules.specs.Facts.{Relation}
 
 -- whether a cell says ≤ (it is 1 or 3) or ~ (it is 2 or 3)
 unfoldable pub says : Kind → ℕ → Bool
-says ordered cell = same cell 1 or same cell 3
-says compatible cell = less 1 cell
+says Kind.Ordered cell = same cell 1 or same cell 3
+says Kind.Compatible cell = less 1 cell
 
 -- the cell that says ≤ and ~ as two tests do
 unfoldable pub cell_of : Bool → Bool → ℕ
@@ -24,7 +25,7 @@ facts n t kind i j = less i n and (less j n and says kind (cell_at n t i j))
 -- as many cells of row i, from column j on
 unfoldable pub row_of : ℕ → ℕ → Relation → ℕ → List ℕ
 row_of zero j r i = []
-row_of (suc left) j r i = cell_of (r ordered i j) (r compatible i j) ∷ row_of left (suc j) r i
+row_of (suc left) j r i = cell_of (r Kind.Ordered i j) (r Kind.Compatible i j) ∷ row_of left (suc j) r i
 
 -- as many rows of n cells, from row i on
 unfoldable pub rows_of : ℕ → ℕ → ℕ → Relation → List ℕ

@@ -1,10 +1,8 @@
-// Whether the statements clash, and where.
+// The pair at which the statements clash.
 use sheet::Variable;
 
 #[derive(Clone, Copy)]
-pub enum Clash {
-    // no pair has it
-    Nowhere,
-    // at the first pair, row by row
-    Between(Variable, Variable),
+pub struct Clash {
+    pub first: Variable,
+    pub second: Variable,
 }

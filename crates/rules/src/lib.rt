@@ -3,9 +3,11 @@
 #![tactic(auto)]
 
 mod clashes;
+mod kinds;
 mod replies;
 mod verdicts;
 
 pub use clashes::Clash;
+pub use kinds::Kind;
 pub use replies::Reply;
-pub use verdicts::{Verdict, verdict_of};
+pub use verdicts::Verdict;

@@ -2,19 +2,19 @@
 ghost use Rattle.std.specs.Prelude.{◌≡◌};
 ghost use Rattle.rules.specs.Replies.{reply_number};
 
-#[derive(Clone, Copy)]
+#[derive(Clone, Copy, Debug, PartialEq, Eq)]
 pub enum Reply {
     Always,
     Never,
     Open,
 }
 
-impl Reply {
-    // Its number, as a reply byte.
-    pub fn number(self) -> u8
-        ensures { result ≡ reply_number self }
-    {
-        match self {
+// Its number, as a reply byte.
+impl From<Reply> for u8 {
+    ghost from_gives = { λ reply number. number ≡ reply_number reply };
+
+    fn from(reply: Reply) -> u8 {
+        match reply {
             Reply::Always => 0,
             Reply::Never => 1,
             Reply::Open => 2,

@@ -1,4 +1,4 @@
-// The verdict on an accepted sheet.
+// The verdict on an accepted sheet: an enum, since each further thing that can be told of a sheet is a case of it.
 ghost use Rattle.std.specs.Prelude.{◌≡◌};
 ghost use Rattle.rules.specs.Verdicts.{verdict_by};
 
@@ -12,12 +12,14 @@ pub enum Verdict {
     Clash(Variable, Variable),
 }
 
-// The verdict where the first clash is this one.
-pub fn verdict_of(clash: Clash) -> Verdict
-    ensures { result ≡ verdict_by clash }
-{
-    match clash {
-        Clash::Nowhere => Verdict::Consistent,
-        Clash::Between(i, j) => Verdict::Clash(i, j),
+// The verdict where this is the first clash, if there is one.
+impl From<Option<Clash>> for Verdict {
+    ghost from_gives = { λ clash verdict. verdict ≡ verdict_by clash };
+
+    fn from(clash: Option<Clash>) -> Verdict {
+        match clash {
+            None => Verdict::Consistent,
+            Some(clash) => Verdict::Clash(clash.first, clash.second),
+        }
     }
 }

@@ -10,47 +10,31 @@ use Rattle.fields.specs.Limits.{most_variables, most_items}
 use Rattle.items.specs.declared.items.Statement.{Statement}
 use Rattle.items.specs.Statements.{Names, AllName}
 use Rattle.rules.specs.Stated.{selection}
-use Rattle.selections.specs.Listed.{Selections, Listed}
+use Rattle.selections.specs.declared.listed.Selection.{Selection}
+use Rattle.selections.specs.Listed.{selection_of, selection_at, Selections, Listed}
 use Rattle.selections.specs.Stands.{Selected, SelectionsStand}
-use Rattle.selections.proofs.Appended.{entries_of, single, below_both, At, at_single, at_first, at_second}
-use Rattle.selections.proofs.Appended.{at_either}
+use Rattle.selections.proofs.Appended.{entries_of, single, below_both, at_single, at_first, at_second, at_either}
 
--- what a statement adds to a list of one of the fields: an entry where it is a selection
-abbrev entry_of : (ℕ → ℕ → ℕ → ℕ) → Statement → List ℕ
-entry_of field (Statement.Ordering i j) = []
-entry_of field (Statement.Compatibility i j) = []
-entry_of field (Statement.Selection i f j) = field i.0 f.0 j.0 ∷ []
-entry_of field (Statement.Labelling i a) = []
-
-abbrev pub subject_in : Statement → List ℕ
-subject_in = entry_of λ i f j. i
-
-abbrev pub feature_in : Statement → List ℕ
-feature_in = entry_of λ i f j. f
-
-abbrev pub child_in : Statement → List ℕ
-child_in = entry_of λ i f j. j
+-- what a statement adds to the list: an entry where it is a selection
+abbrev pub selection_in : Statement → List Selection
+selection_in (Statement.Ordering i j) = []
+selection_in (Statement.Compatibility i j) = []
+selection_in (Statement.Selection i f j) = selection_of i.0 f.0 j.0 ∷ []
+selection_in (Statement.Labelling i a) = []
 
 -- and what all of them make
-abbrev pub subjects_of : List Statement → List ℕ
-subjects_of = entries_of subject_in
-
-abbrev pub features_of : List Statement → List ℕ
-features_of = entries_of feature_in
-
-abbrev pub children_of : List Statement → List ℕ
-children_of = entries_of child_in
+abbrev pub selections_of : List Statement → List Selection
+selections_of = entries_of selection_in
 
 -- i[f]j is in a list where its fields stand at one place
-abbrev Is : ℕ → ℕ → ℕ → ℕ → ℕ → ℕ → Type 0
-Is i f j x g y = (x ≡ i) × (g ≡ f) × (y ≡ j)
+abbrev Is : ℕ → ℕ → ℕ → Selection → Type 0
+Is i f j s = (s.subject.0 ≡ i) × (s.feature.0 ≡ f) × (s.child.0 ≡ j)
 
-module _ {subjects features children : List ℕ} {i f j : ℕ} where
-  is_at : (l : Listed subjects features children i f j) → At (Is i f j) subjects features children l.at
+module _ {list : List Selection} {i f j : ℕ} where
+  is_at : (l : Listed list i f j) → Is i f j (selection_at list l.at)
   is_at l = (l.subject, l.feature, l.child)
 
-  listed_at : (k : ℕ) → k < length subjects → At (Is i f j) subjects features children k
-      → Listed subjects features children i f j
+  listed_at : (k : ℕ) → k < length list → Is i f j (selection_at list k) → Listed list i f j
   listed_at k h p = record { at = k; in_list = h; subject = p.0; feature = p.1; child = p.2 }
 
 -- statements behind statements: what is selected by the one or the other
@@ -69,52 +53,44 @@ both_selected {st = st} stand stand' first second either =
     }
 
 -- a list behind a list
-module _ {n : ℕ} {subjects features children subjects' features' children' : List ℕ} where
-  pub both_selections : Selections n subjects features children → Selections n subjects' features' children'
-      → length subjects + length subjects' ≤ most_items
-      → Selections n (subjects ++ subjects') (features ++ features') (children ++ children')
+module _ {n : ℕ} {list list' : List Selection} where
+  pub both_selections : Selections n list → Selections n list' → length list + length list' ≤ most_items
+      → Selections n (list ++ list')
   both_selections a b short =
-      let size = length-append subjects subjects' in
       record {
         few = a.few;
-        short = omega arith;
-        features_too = omega (arith, length-append features features', a.features_too, b.features_too);
-        children_too = omega (arith, length-append children children', a.children_too, b.children_too);
-        subject_below = below_both subjects subjects' subjects subjects' refl a.subject_below b.subject_below;
+        short = omega (arith, length-append list list');
+        subject_below =
+            below_both (λ (s : Selection). s.subject.0) (selection_of 0 0 0) list list' a.subject_below b.subject_below;
         child_below =
-            below_both subjects subjects' children children' a.children_too a.child_below b.child_below;
+            below_both (λ (s : Selection). s.child.0) (selection_of 0 0 0) list list' a.child_below b.child_below;
       }
 
-  pub both_selections_stand : {st st' : List Statement} → length features ≡ length subjects
-      → length children ≡ length subjects → SelectionsStand n st (Listed subjects features children)
-      → SelectionsStand n st' (Listed subjects' features' children')
-      → SelectionsStand n (st ++ st') (Listed (subjects ++ subjects') (features ++ features') (children ++ children'))
-  both_selections_stand e e' stand stand' =
-      let size = length-append subjects subjects' in
+  pub both_selections_stand : {st st' : List Statement} → SelectionsStand n st (Listed list)
+      → SelectionsStand n st' (Listed list') → SelectionsStand n (st ++ st') (Listed (list ++ list'))
+  both_selections_stand stand stand' =
+      let size = length-append list list' in
       both_selected stand stand'
       (λ i f j l. let h = l.in_list in
-      listed_at l.at (omega arith)
-      (at_first (Is i f j) subjects features children subjects' features' children' e e' l.at h (is_at l)))
+      listed_at l.at (omega arith) (at_first (Is i f j) (selection_of 0 0 0) list list' l.at h (is_at l)))
       (λ i f j l. let h = l.in_list in
-      listed_at (length subjects + l.at) (omega arith)
-      (at_second (Is i f j) subjects features children subjects' features' children' e e' l.at (is_at l)))
+      listed_at (length list + l.at) (omega arith)
+      (at_second (Is i f j) (selection_of 0 0 0) list list' l.at (is_at l)))
       (λ i f j l.
-      at_either (Is i f j) subjects features children subjects' features' children' e e' l.at l.in_list (is_at l)
+      at_either (Is i f j) (selection_of 0 0 0) list list' l.at l.in_list (is_at l)
       (λ m h p. inl (listed_at m h p)) (λ m h p. inr (listed_at m h p)))
 
 -- no statement
-pub no_selections : (n : ℕ) → n ≤ most_variables → Selections n [] [] []
+pub no_selections : (n : ℕ) → n ≤ most_variables → Selections n []
 no_selections n few =
     record {
       few = few;
       short = omega arith;
-      features_too = refl;
-      children_too = refl;
       subject_below = λ k h. absurd (omega (arith, h));
       child_below = λ k h. absurd (omega (arith, h));
     }
 
-pub no_selections_stand : (n : ℕ) → SelectionsStand n [] (Listed [] [] [])
+pub no_selections_stand : (n : ℕ) → SelectionsStand n [] (Listed [])
 no_selections_stand n =
     record {
       listed = λ i f j m. absurd (Memᴰ.not-nil m);
@@ -122,35 +98,27 @@ no_selections_stand n =
     }
 
 -- one statement: its entries, if any, are lawful and hold its selection
-same_size : (a b : ℕ → ℕ → ℕ → ℕ) (q : Statement) → length (entry_of a q) ≡ length (entry_of b q)
-same_size a b (Statement.Ordering i j) = refl
-same_size a b (Statement.Compatibility i j) = refl
-same_size a b (Statement.Selection i f j) = refl
-same_size a b (Statement.Labelling i c) = refl
-
-statement_lawful : (n : ℕ) (q : Statement) → n ≤ most_variables → Names n q
-    → Selections n (subject_in q) (feature_in q) (child_in q)
+statement_lawful : (n : ℕ) (q : Statement) → n ≤ most_variables → Names n q → Selections n (selection_in q)
 statement_lawful n (Statement.Ordering i j) few names = no_selections n few
 statement_lawful n (Statement.Compatibility i j) few names = no_selections n few
 statement_lawful n (Statement.Selection i f j) few names =
     record {
       few = few;
       short = omega arith;
-      features_too = refl;
-      children_too = refl;
-      subject_below = λ k h. rw (single i.0 k h) names.0;
-      child_below = λ k h. rw (single j.0 k h) names.1;
+      subject_below = λ k h. rw (single (selection_of i.0 f.0 j.0) (selection_of 0 0 0) k h) names.0;
+      child_below = λ k h. rw (single (selection_of i.0 f.0 j.0) (selection_of 0 0 0) k h) names.1;
     }
 statement_lawful n (Statement.Labelling i a) few names = no_selections n few
 
 abbrev pub ListedIn : Statement → Selected
-ListedIn q = Listed (subject_in q) (feature_in q) (child_in q)
+ListedIn q = Listed (selection_in q)
 
 pub one_listed : (i f j : ℕ) → ListedIn (selection i f j) i f j
 one_listed i f j = listed_at 0 (omega arith) (refl, refl, refl)
 
 pub only_listed : {i f j x g y : ℕ} → ListedIn (selection i f j) x g y → (i ≡ x) × (f ≡ g) × (j ≡ y)
-only_listed {i} {f} {j} {x} {g} {y} l = at_single (Is x g y) i f j l.at l.in_list (is_at l)
+only_listed {i} {f} {j} {x} {g} {y} l =
+    at_single (Is x g y) (selection_of 0 0 0) (selection_of i f j) l.at l.in_list (is_at l)
 
 is_stated_lem : (q : Statement) (i f j : ℕ) → ListedIn q i f j → selection i f j ≡ q
 is_stated_lem (Statement.Ordering x y) i f j l = absurd (omega (arith, l.in_list))
@@ -166,37 +134,31 @@ statement_selections n q =
     }
 
 -- one statement more: any that is no selection adds nothing, to whatever holds the selections
-pub other_than_selection : {n : ℕ} {st : List Statement} {selected : Selected} (q : Statement) → subject_in q ≡ []
+pub other_than_selection : {n : ℕ} {st : List Statement} {selected : Selected} (q : Statement) → selection_in q ≡ []
     → SelectionsStand n st selected → SelectionsStand n (st ++ (q ∷ [])) selected
 other_than_selection {n} q none stand =
     both_selected stand (statement_selections n q) (λ i f j p. p)
     (λ i f j l. let h = rw none at l.in_list in absurd (omega (arith, h))) (λ i f j p. inl p)
 
-module _ {n : ℕ} {subjects features children : List ℕ} (lawful : Selections n subjects features children)
-    (i f j : ℕ) where
-  pub more_selections : Names n (selection i f j) → length subjects < most_items
-      → Selections n (subjects ++ (i ∷ [])) (features ++ (f ∷ [])) (children ++ (j ∷ []))
+module _ {n : ℕ} {list : List Selection} (lawful : Selections n list) (i f j : ℕ) where
+  pub more_selections : Names n (selection i f j) → length list < most_items
+      → Selections n (list ++ (selection_of i f j ∷ []))
   more_selections names room =
       both_selections lawful (statement_lawful n (selection i f j) lawful.few names) (omega arith)
 
-  pub more_selections_stand : {st : List Statement} → SelectionsStand n st (Listed subjects features children)
-      → SelectionsStand n (st ++ (selection i f j ∷ []))
-      (Listed (subjects ++ (i ∷ [])) (features ++ (f ∷ [])) (children ++ (j ∷ [])))
-  more_selections_stand stand =
-      both_selections_stand lawful.features_too lawful.children_too stand
-      (statement_selections n (selection i f j))
+  pub more_selections_stand : {st : List Statement} → SelectionsStand n st (Listed list)
+      → SelectionsStand n (st ++ (selection i f j ∷ [])) (Listed (list ++ (selection_of i f j ∷ [])))
+  more_selections_stand stand = both_selections_stand stand (statement_selections n (selection i f j))
 
 -- so the selections of any statements stand in the list made of them
-pub all_selections : (n : ℕ) (st : List Statement) → n ≤ most_variables → AllName n st → length (subjects_of st) ≤ most_items
-    → Selections n (subjects_of st) (features_of st) (children_of st)
+pub all_selections : (n : ℕ) (st : List Statement) → n ≤ most_variables → AllName n st
+    → length (selections_of st) ≤ most_items → Selections n (selections_of st)
 all_selections n [] few names short = no_selections n few
 all_selections n (q ∷ st) few names short =
-    let size = length-append (subject_in q) (subjects_of st) in
+    let size = length-append (selection_in q) (selections_of st) in
     both_selections (statement_lawful n q few names.0) (all_selections n st few names.1 (omega arith))
     (omega arith)
 
-pub all_selections_stand : (n : ℕ) (st : List Statement)
-    → SelectionsStand n st (Listed (subjects_of st) (features_of st) (children_of st))
+pub all_selections_stand : (n : ℕ) (st : List Statement) → SelectionsStand n st (Listed (selections_of st))
 all_selections_stand n [] = no_selections_stand n
-all_selections_stand n (q ∷ st) =
-    both_selections_stand (same_size _ _ q) (same_size _ _ q) (statement_selections n q) (all_selections_stand n st)
+all_selections_stand n (q ∷ st) = both_selections_stand (statement_selections n q) (all_selections_stand n st)

@@ -1,5 +1,6 @@
 -- What stands behind the first 14,343 bytes of an input cannot change how it is read: every field that is looked for
 -- lies in the first 14,342, and one byte more tells that something follows.
+use Rattle.std.specs.Prelude.{Result, Ok, Err}
 use Prim.Native.Nat.{ℕ, zero, suc, ◌+◌, ◌*◌, ◌≤◌, ◌<◌}
 use mathlib.Core.Bool.{Bool, true, false}
 use mathlib.Core.List.{List}
@@ -10,67 +11,47 @@ use native.Mathlib.Nat.{suc-mul}
 use native.Mathlib.Omega.{arith}
 use Rattle.std.proofs.lemmas.Bool.{cases_lt}
 use Rattle.std.proofs.lemmas.List.{length-take-le, get_or-take, take_all}
-use Rattle.fields.specs.declared.fields.ByteRead.{ByteRead}
-use Rattle.fields.specs.declared.fields.VariableRead.{VariableRead}
-use Rattle.fields.specs.declared.fields.WordRead.{WordRead}
 use Rattle.fields.specs.declared.numbers.Cursor.{Cursor}
 use Rattle.fields.specs.declared.numbers.Variable.{Variable}
 use Rattle.fields.specs.declared.refusals.Place.{Place}
 use Rattle.fields.specs.declared.refusals.Refusal.{Refusal}
-use Rattle.fields.specs.Fields.{cursor, byte_is, word_is, then_byte, then_word, then_variable, judged}
-use Rattle.fields.specs.Fields.{byte_field, word_field, variable_field, word_if, variable_if}
+use Rattle.fields.specs.Fields.{Read, cursor, found, then_value, then_field, judged}
+use Rattle.fields.specs.Fields.{byte_field, word_field, variable_field, field_if}
 use Rattle.fields.specs.Refusals.{ends, remain}
 use Rattle.fields.specs.Tests.{pick, has}
 use Rattle.fields.proofs.Chains.{Of}
-use Rattle.fields.proofs.Choice.{is_less, not_less, pick_most}
-use Rattle.fields.proofs.Extents.{judged_spans, word_if_spans, variable_spans, variable_if_spans}
+use Rattle.fields.proofs.Choice.{is_less, not_less, pick_most, picked}
+use Rattle.fields.proofs.Extents.{judged_spans, if_spans, word_spans, variable_spans}
 use Rattle.headers.specs.declared.headers.Header.{Header}
-use Rattle.headers.specs.declared.headers.HeaderRead.{HeaderRead}
-use Rattle.headers.specs.Headers.{then_header, header_map, variable_count, count_field, count_if, header_of}
+use Rattle.headers.specs.Headers.{header_map, variable_count, count_field, count_if, header_of}
 use Rattle.headers.proofs.Heads.{Heads, header_spans, count_if_spans}
-use Rattle.items.specs.declared.items.EndRead.{EndRead}
-use Rattle.items.specs.declared.items.Item.{Item}
-use Rattle.items.specs.declared.items.ItemRead.{ItemRead}
-use Rattle.items.specs.Items.{then_item, then_end, map_field, fields_width, width, most, fields_at, item_at, items_end}
+use Rattle.items.specs.Items.{map_field, fields_width, width, most, edge_field, label_field, fields_at, item_at, items_end}
+use Rattle.items.proofs.Filled.{edge_spans, label_spans}
 use Rattle.items.proofs.Lawful.{width_most, item_spans, most_least}
 use Rattle.items.proofs.Runs.{run_spans}
-use Rattle.sheet.specs.declared.whole.SheetRead.{SheetRead}
 use Rattle.sheet.specs.declared.whole.TheConstants.{LONGEST_SHEET}
+use Rattle.sheet.specs.declared.whole.Accepted.{Accepted}
 use Rattle.sheet.specs.Sheets.{body_of, read_sheet, longest}
 use Rattle.sheet.proofs.Theorems.{accepted_short}
 
 -- two chains off the same answer are the same where what follows is: Q is what is known of the answer
 module _ {A : Type 0} (refused : Refusal → A) where
-  same_byte : {Q : ByteRead → Type 0} {r r' : ByteRead} {f g : ℕ → Cursor → A} → r ≡ r' → Of Q r
-      → ((v : ℕ) (c : Cursor) → Q (byte_is v c) → f v c ≡ g v c) → then_byte r refused f ≡ then_byte r' refused g
-  same_byte {r = (ByteRead.Is x)} e h on = rw (← e) (on x.value x.next h.holds)
-  same_byte {r = (ByteRead.Refused q)} e h on = rw (← e) refl
+  same_field : {T : Type 0} {Q : Read T → Type 0} {r r' : Read T} {f g : T → Cursor → A} → r ≡ r' → Of Q r
+      → ((v : T) (c : Cursor) → Q (found v c) → f v c ≡ g v c) → then_field r refused f ≡ then_field r' refused g
+  same_field {r = (Ok x)} e h on = rw (← e) (on x.value x.next h.holds)
+  same_field {r = (Err q)} e h on = rw (← e) refl
 
-  same_word : {Q : WordRead → Type 0} {r r' : WordRead} {f g : ℕ → Cursor → A} → r ≡ r' → Of Q r
-      → ((v : ℕ) (c : Cursor) → Q (word_is v c) → f v c ≡ g v c) → then_word r refused f ≡ then_word r' refused g
-  same_word {r = (WordRead.Is x)} e h on = rw (← e) (on x.value x.next h.holds)
-  same_word {r = (WordRead.Refused q)} e h on = rw (← e) refl
+  same_value : {T : Type 0} {Q : Result T Refusal → Type 0} {r r' : Result T Refusal} {f g : T → A} → r ≡ r' → Of Q r
+      → ((x : T) → Q (Ok x) → f x ≡ g x) → then_value r refused f ≡ then_value r' refused g
+  same_value {r = (Ok x)} e h on = rw (← e) (on x h.holds)
+  same_value {r = (Err q)} e h on = rw (← e) refl
 
-  same_variable : {Q : VariableRead → Type 0} {r r' : VariableRead} {f g : Variable → Cursor → A} → r ≡ r' → Of Q r
-      → ((v : Variable) (c : Cursor) → Q (VariableRead.Is (record { value = v; next = c })) → f v c ≡ g v c)
-      → then_variable r refused f ≡ then_variable r' refused g
-  same_variable {r = (VariableRead.Is x)} e h on = rw (← e) (on x.value x.next h.holds)
-  same_variable {r = (VariableRead.Refused q)} e h on = rw (← e) refl
-
-  same_header : {Q : HeaderRead → Type 0} {r r' : HeaderRead} {f g : Header → A} → r ≡ r' → Of Q r
-      → ((x : Header) → Q (HeaderRead.Is x) → f x ≡ g x) → then_header r refused f ≡ then_header r' refused g
-  same_header {r = (HeaderRead.Is x)} e h on = rw (← e) (on x h.holds)
-  same_header {r = (HeaderRead.Refused q)} e h on = rw (← e) refl
-
-  same_item : {Q : ItemRead → Type 0} {r r' : ItemRead} {f g : Item → Cursor → A} → r ≡ r' → Of Q r
-      → ((x : Item) (c : Cursor) → Q (ItemRead.Is x c) → f x c ≡ g x c) → then_item r refused f ≡ then_item r' refused g
-  same_item {r = (ItemRead.Is x c)} e h on = rw (← e) (on x c h.holds)
-  same_item {r = (ItemRead.Refused q)} e h on = rw (← e) refl
-
-  same_end : {Q : EndRead → Type 0} {r r' : EndRead} {f g : Cursor → A} → r ≡ r' → Of Q r
-      → ((c : Cursor) → Q (EndRead.At c) → f c ≡ g c) → then_end r refused f ≡ then_end r' refused g
-  same_end {r = (EndRead.At c)} e h on = rw (← e) (on c h.holds)
-  same_end {r = (EndRead.Refused q)} e h on = rw (← e) refl
+-- and so are two fields where their bit stands
+if_alike : {T : Type 0} (stands : Bool) (r r' : Read T) (c : Cursor) → (stands ≡ true → r ≡ r')
+    → field_if stands r c ≡ field_if stands r' c
+unfolding field_if pick
+if_alike true r r' c h = rw (h refl) refl
+if_alike false r r' c h = refl
 
 -- two inputs of m bytes or more that begin with the same m
 pub record Alike (m : ℕ) (s u : List ℕ) : Type 0 where
@@ -96,34 +77,36 @@ module _ {m : ℕ} {s u : List ℕ} (alike : Alike m s u) where
   unfolding variable_field
   variable_alike n c h = rw (byte_alike c h) refl
 
-  word_if_alike : (stands : Bool) (c : Cursor) → c.at + pick stands 2 0 ≤ m → word_if stands s c ≡ word_if stands u c
-  unfolding word_if pick
-  word_if_alike true c h = word_alike c h
-  word_if_alike false c h = refl
+  edge_alike : (n : ℕ) (c : Cursor) → c.at + 3 ≤ m → edge_field s n c ≡ edge_field u n c
+  unfolding edge_field
+  edge_alike n c h =
+      same_field _ (word_alike c (omega arith)) (word_spans s c) λ f c₁ p₁.
+      same_field _ (variable_alike n c₁ (omega arith)) (variable_spans s c₁ n) λ j c₂ p₂. refl
 
-  variable_if_alike : (n : ℕ) (stands : Bool) (c : Cursor) → c.at + pick stands 1 0 ≤ m
-      → variable_if stands s n c ≡ variable_if stands u n c
-  unfolding variable_if pick
-  variable_if_alike n true c h = variable_alike n c h
-  variable_if_alike n false c h = refl
+  label_alike : (c : Cursor) → c.at + 2 ≤ m → label_field s c ≡ label_field u c
+  unfolding label_field
+  label_alike c h = rw (word_alike c h) refl
 
   fields_alike : (n map : ℕ) (i : Variable) (c : Cursor) → c.at + fields_width map ≤ m
       → fields_at s n map i c ≡ fields_at u n map i c
   unfolding fields_at fields_width
   fields_alike n map i c h =
-      same_variable _ (variable_if_alike n (has 1 map) c (omega arith)) (variable_if_spans s c n _) λ v₁ c₁ p₁.
-      same_variable _ (variable_if_alike n (has 2 map) c₁ (omega arith)) (variable_if_spans s c₁ n _) λ v₂ c₂ p₂.
-      same_word _ (word_if_alike (has 4 map) c₂ (omega arith)) (word_if_spans s c₂ _) λ v₃ c₃ p₃.
-      same_variable _ (variable_if_alike n (has 4 map) c₃ (omega arith)) (variable_if_spans s c₃ n _) λ v₄ c₄ p₄.
-      same_word _ (word_if_alike (has 8 map) c₄ (omega arith)) (word_if_spans s c₄ _) λ v₅ c₅ p₅. refl
+      same_field _ (if_alike (has 1 map) _ _ c λ e. variable_alike n c (omega (arith, picked (has 1 map) 1 e)))
+      (if_spans (has 1 map) _ (variable_spans s c n)) λ v₁ c₁ p₁.
+      same_field _ (if_alike (has 2 map) _ _ c₁ λ e. variable_alike n c₁ (omega (arith, picked (has 2 map) 1 e)))
+      (if_spans (has 2 map) _ (variable_spans s c₁ n)) λ v₂ c₂ p₂.
+      same_field _ (if_alike (has 4 map) _ _ c₂ λ e. edge_alike n c₂ (omega (arith, picked (has 4 map) 3 e)))
+      (if_spans (has 4 map) _ (edge_spans s n c₂)) λ v₃ c₃ p₃.
+      same_field _ (if_alike (has 8 map) _ _ c₃ λ e. label_alike c₃ (omega (arith, picked (has 8 map) 2 e)))
+      (if_spans (has 8 map) _ (label_spans s c₃)) λ v₄ c₄ p₄. refl
 
   item_alike : (place : Place) (n : ℕ) (c : Cursor) → c.at + most place ≤ m → item_at place s n c ≡ item_at place u n c
   unfolding item_at map_field width
   item_alike place n c h =
-      same_byte _ (ap (judged _ _) (byte_alike c (omega (arith, most_least place))))
+      same_field _ (ap (judged _ _) (byte_alike c (omega (arith, most_least place))))
       (judged_spans s c _ _ (omega arith)) λ map c₁ p₁.
       let fits = width_most place map p₁.1 in
-      same_variable _ (variable_alike n c₁ (omega arith)) (variable_spans s c₁ n) λ i c₂ p₂.
+      same_field _ (variable_alike n c₁ (omega arith)) (variable_spans s c₁ n) λ i c₂ p₂.
       fields_alike n map i c₂ (omega arith)
 
   items_alike : (place : Place) (n left : ℕ) (c : Cursor) → c.at + left * most place ≤ m
@@ -132,40 +115,40 @@ module _ {m : ℕ} {s u : List ℕ} (alike : Alike m s u) where
   items_alike place n zero c h = refl
   items_alike place n (suc left) c h =
       let step = suc-mul left (most place) in
-      same_item _ (item_alike place n c (omega arith)) (item_spans place s n c) λ x next p.
-      let fits = width_most place x.map p.lawful in
+      same_field _ (item_alike place n c (omega arith)) (item_spans place s n c) λ x next p.
+      let fits = width_most place p.map p.lawful in
       items_alike place n left next (omega arith)
 
   count_if_alike : (stands : Bool) (c : Cursor) → c.at + pick stands 2 0 ≤ m → count_if stands s c ≡ count_if stands u c
-  unfolding count_if count_field pick
-  count_if_alike true c h = rw (word_alike c h) refl
-  count_if_alike false c h = refl
+  unfolding count_if count_field
+  count_if_alike stands c h =
+      if_alike stands _ _ c λ e. rw (word_alike c (omega (arith, picked stands 2 e))) refl
 
   header_alike : 6 ≤ m → header_of s ≡ header_of u
   unfolding header_of header_map variable_count
   header_alike b =
-      same_byte _ (ap (judged _ _) (byte_alike (cursor 0) (omega arith)))
+      same_field _ (ap (judged _ _) (byte_alike (cursor 0) (omega arith)))
       (judged_spans s (cursor 0) _ _ (omega arith)) λ map c₁ p₁.
-      same_byte _ (ap (judged _ _) (byte_alike c₁ (omega arith)))
+      same_field _ (ap (judged _ _) (byte_alike c₁ (omega arith)))
       (judged_spans s c₁ _ _ (omega arith)) λ n c₂ p₂.
       let two = pick_most (has 2 map) 2 in
-      same_word _ (count_if_alike (has 2 map) c₂ (omega arith)) (count_if_spans s c₂ (has 2 map)) λ r c₃ p₃.
+      same_field _ (count_if_alike (has 2 map) c₂ (omega arith)) (count_if_spans s c₂ (has 2 map)) λ r c₃ p₃.
       let more = pick_most (has 4 map) 2 in
-      same_word _ (count_if_alike (has 4 map) c₃ (omega arith)) (count_if_spans s c₃ (has 4 map)) λ k c₄ p₄. refl
+      same_field _ (count_if_alike (has 4 map) c₃ (omega arith)) (count_if_spans s c₃ (has 4 map)) λ k c₄ p₄. refl
 
   -- the last question ends at the longest or before, so that something follows in both
   body_alike : (h : Header) → Heads s h → longest < m → body_of s h ≡ body_of u h
   unfolding body_of remain pick
   body_alike h p b =
-      same_end _ (items_alike Place.Record h.variables h.records h.first (omega arith))
+      same_value _ (items_alike Place.Record h.variables h.records h.first (omega arith))
       (run_spans Place.Record s h.variables h.records h.first) λ asked r.
-      same_end _ (items_alike Place.Question h.variables h.questions asked (omega arith))
+      same_value _ (items_alike Place.Question h.variables h.questions asked (omega arith))
       (run_spans Place.Question s h.variables h.questions asked) λ end r'.
       rw (is_less end.at (length s) (omega arith), is_less end.at (length u) (omega arith)) refl
 
   pub read_alike : longest < m → read_sheet s ≡ read_sheet u
   unfolding read_sheet
-  read_alike b = same_header _ (header_alike (omega arith)) (header_spans s) λ h p. body_alike h p b
+  read_alike b = same_value _ (header_alike (omega arith)) (header_spans s) λ h p. body_alike h p b
 
 alike_taken : (m : ℕ) (s : List ℕ) → m ≤ length s → Alike m (take m s) s
 alike_taken m s h =
@@ -186,13 +169,13 @@ pub beyond_unread : (s : List ℕ) → read_sheet (take (longest + 1) s) ≡ rea
 beyond_unread s = beyond_any (longest + 1) s (omega arith)
 
 -- a refusal is that of the first 14,343 bytes, so with its number and offset, and an accepted input has no more
-pub beyond_refused : (s : List ℕ) (r : Refusal) → read_sheet s ≡ SheetRead.Refused r
-    → read_sheet (take (longest + 1) s) ≡ SheetRead.Refused r
+pub beyond_refused : (s : List ℕ) (r : Refusal) → read_sheet s ≡ Err r
+    → read_sheet (take (longest + 1) s) ≡ Err r
 beyond_refused s r e = beyond_unread s ∙ e
 
-pub beyond_accepted : (s : List ℕ) (h : Header) (asked : Cursor) → read_sheet s ≡ SheetRead.Accepted h asked
+pub beyond_accepted : (s : List ℕ) (a : Accepted) → read_sheet s ≡ Ok a
     → take (longest + 1) s ≡ s
-beyond_accepted s h asked e = take_all (longest + 1) s (omega (arith, accepted_short s h asked e))
+beyond_accepted s a e = take_all (longest + 1) s (omega (arith, accepted_short s a e))
 
 -- and that is what a program needs to read
 pub longest_agrees : LONGEST_SHEET ≡ longest

@@ -1,5 +1,5 @@
 -- Laws of the whole sheet that belong to no one function.
-pub mod Accepted
+pub mod Accepting
 pub mod Named
 pub mod Longest
 pub mod Theorems

@@ -1,4 +1,5 @@
 -- A sheet of the longest length is accepted: 1,024 records with all fields and 1,024 questions i[f]j.
+use Rattle.std.specs.Prelude.{Ok, Err}
 use Prim.Native.Nat.{ℕ, zero, suc, ◌+◌, ◌*◌, ◌-◌, ◌%◌, ◌≤◌, ◌<◌}
 use mathlib.Core.Bool.{Bool, true, false}
 use mathlib.Core.List.{List, [], ◌∷◌}
@@ -6,26 +7,21 @@ use mathlib.Core.Path.{◌≡◌, refl, sym, ap, ◌∙◌}
 use lib.ListN.{length, get_or}
 use native.Mathlib.Nat.{suc-mul}
 use native.Mathlib.Omega.{arith}
-use Rattle.fields.specs.declared.fields.VariableRead.{VariableRead}
-use Rattle.fields.specs.declared.fields.WordRead.{WordRead}
+use Rattle.fields.specs.declared.fields.Field.{Field}
 use Rattle.fields.specs.declared.numbers.Cursor.{Cursor}
 use Rattle.fields.specs.declared.numbers.Variable.{Variable}
 use Rattle.fields.specs.declared.refusals.Place.{Place}
-use Rattle.fields.specs.Fields.{cursor, word, byte_field, word_field, variable_field, word_if, variable_if}
+use Rattle.fields.specs.Fields.{Read, cursor, word, byte_field, word_field, variable_field, field_if}
 use Rattle.fields.specs.Refusals.{ends, bad_header_map, bad_variable_count, bad_count, bad_item_map, several_bits}
 use Rattle.fields.specs.Refusals.{bad_variable, remain}
 use Rattle.fields.specs.Tests.{less, same, pick, has}
-use Rattle.fields.proofs.Chains.{Of, told, either, after_word, after_variable}
-use Rattle.fields.proofs.Choice.{chosen, passed, is_less, not_less, is_same, less_true}
-use Rattle.headers.specs.declared.headers.HeaderRead.{HeaderRead}
+use Rattle.fields.proofs.Chains.{Of, told, either, after_field}
+use Rattle.fields.proofs.Choice.{chosen, passed, is_less, not_less, is_same, less_true, picked}
 use Rattle.headers.specs.Headers.{header, header_map, variable_count, count_field, count_if, header_of}
-use Rattle.items.specs.declared.items.EndRead.{EndRead}
 use Rattle.items.specs.declared.items.Item.{Item}
-use Rattle.items.specs.declared.items.ItemRead.{ItemRead}
-use Rattle.items.specs.Items.{map_field, fields_at, item_at, items_end, fields_width, width}
+use Rattle.items.specs.Items.{map_field, edge_field, label_field, fields_at, item_at, items_end, fields_width, width}
 use Rattle.items.proofs.Lawful.{item_spans}
-use Rattle.sheet.specs.declared.whole.SheetRead.{SheetRead}
-use Rattle.sheet.specs.Sheets.{body_of, read_sheet, longest}
+use Rattle.sheet.specs.Sheets.{accepted, body_of, read_sheet, longest}
 
 -- so many values of f, from i on
 tabled : (ℕ → ℕ) → ℕ → ℕ → List ℕ
@@ -44,13 +40,9 @@ tabled_at f (suc k) i zero h = ap f (omega arith)
 tabled_at f (suc k) i (suc j) h = tabled_at f k (suc i) j (omega arith) ∙ ap f (omega arith)
 
 -- a field that lies inside the sheet is found, and a variable field whose byte is below n
-abbrev WordThere : ℕ → Cursor → WordRead → Type 0
-WordThere w c (WordRead.Is f) = f.next.at ≡ c.at + w
-WordThere w c (WordRead.Refused r) = ⊥
-
-abbrev VariableThere : ℕ → Cursor → VariableRead → Type 0
-VariableThere w c (VariableRead.Is f) = f.next.at ≡ c.at + w
-VariableThere w c (VariableRead.Refused r) = ⊥
+abbrev There : {T : Type 0} → ℕ → Cursor → Read T → Type 0
+There w c (Ok f) = f.next.at ≡ c.at + w
+There w c (Err r) = ⊥
 
 -- the w bytes from c on are in the sheet, each below n
 record Small (s : List ℕ) (n : ℕ) (c : Cursor) (w : ℕ) : Type 0 where
@@ -58,57 +50,67 @@ record Small (s : List ℕ) (n : ℕ) (c : Cursor) (w : ℕ) : Type 0 where
   below : (o : ℕ) → c.at ≤ o → o < c.at + w → get_or s o 0 < n
 
 module _ (s : List ℕ) (n : ℕ) where
-  variable_there : (c : Cursor) → Small s n c 1 → Of (VariableThere 1 c) (variable_field s n c)
+  variable_there : (c : Cursor) → Small s n c 1 → Of (There 1 c) (variable_field s n c)
   unfolding variable_field bad_variable byte_field ends pick
   variable_there c h =
       let here = is_less (get_or s c.at 0) n (h.below c.at (omega arith) (omega arith)) in
       rw (not_less (length s) (c.at + 1) h.inside, here)
       (record { holds = refl })
 
-  word_if_there : (stands : Bool) (c : Cursor) → Small s n c (pick stands 2 0)
-      → Of (WordThere (pick stands 2 0) c) (word_if stands s c)
-  unfolding word_if word_field ends pick
-  word_if_there true c h = rw (not_less (length s) (c.at + 2) h.inside) (record { holds = refl })
-  word_if_there false c h = record { holds = omega arith }
+  word_there : (c : Cursor) → Small s n c 2 → Of (There 2 c) (word_field s c)
+  unfolding word_field ends pick
+  word_there c h = rw (not_less (length s) (c.at + 2) h.inside) (record { holds = refl })
 
-  variable_if_there : (stands : Bool) (c : Cursor) → Small s n c (pick stands 1 0)
-      → Of (VariableThere (pick stands 1 0) c) (variable_if stands s n c)
-  unfolding variable_if pick
-  variable_if_there true c h = variable_there c h
-  variable_if_there false c h = record { holds = omega arith }
+-- so is one that is there where its bit stands
+if_there : {T : Type 0} (w : ℕ) (stands : Bool) (read : Read T) (c : Cursor) → (stands ≡ true → Of (There w c) read)
+    → Of (There (pick stands w 0) c) (field_if stands read c)
+unfolding field_if pick
+if_there w true (Ok f) c h = record { holds = (h refl).holds }
+if_there w true (Err r) c h = absurd (h refl).holds
+if_there w false read c h = record { holds = omega arith }
 
 within : {s : List ℕ} {n : ℕ} {c c' : Cursor} {whole w : ℕ} → Small s n c whole → c.at ≤ c'.at
     → c'.at + w ≤ c.at + whole → Small s n c' w
 within h a b = record { inside = omega arith; below = λ o p q. h.below o (omega arith) (omega arith) }
 
+edge_there : (s : List ℕ) (n : ℕ) (c : Cursor) → Small s n c 3 → Of (There 3 c) (edge_field s n c)
+unfolding edge_field
+edge_there s n c h =
+    after_field (word_there s n c (within h (omega arith) (omega arith))) (λ q f. absurd f) λ v₁ c₁ p₁.
+    after_field (variable_there s n c₁ (within h (omega arith) (omega arith))) (λ q f. absurd f) λ v₂ c₂ p₂.
+    record { holds = omega arith }
+
+label_there : (s : List ℕ) (n : ℕ) (c : Cursor) → Small s n c 2 → Of (There 2 c) (label_field s c)
+unfolding label_field
+label_there s n c h =
+    after_field (word_there s n c h) (λ q f. absurd f) λ v next p. record { holds = p }
+
 -- an item whose map is lawful and whose other bytes are below n is found
-abbrev ItemThere : ℕ → ItemRead → Type 0
-ItemThere map (ItemRead.Is x next) = x.map ≡ map
-ItemThere map (ItemRead.Refused r) = ⊥
+abbrev IsRead : Read Item → Type 0
+IsRead (Ok f) = Unit {0}
+IsRead (Err r) = ⊥
 
 fields_there : (s : List ℕ) (n map : ℕ) (i : Variable) (c : Cursor) → Small s n c (fields_width map)
-    → Of (ItemThere map) (fields_at s n map i c)
+    → Of IsRead (fields_at s n map i c)
 unfolding fields_at fields_width
 fields_there s n map i c h =
-    after_variable (variable_if_there s n (has 1 map) c (within h (omega arith) (omega arith)))
+    after_field (if_there 1 (has 1 map) _ c λ e. variable_there s n c (within h (omega arith) (omega (arith, picked (has 1 map) 1 e))))
     (λ q f. absurd f) λ v₁ c₁ p₁.
-    after_variable (variable_if_there s n (has 2 map) c₁ (within h (omega arith) (omega arith)))
+    after_field (if_there 1 (has 2 map) _ c₁ λ e. variable_there s n c₁ (within h (omega arith) (omega (arith, picked (has 2 map) 1 e))))
     (λ q f. absurd f) λ v₂ c₂ p₂.
-    after_word (word_if_there s n (has 4 map) c₂ (within h (omega arith) (omega arith)))
+    after_field (if_there 3 (has 4 map) _ c₂ λ e. edge_there s n c₂ (within h (omega arith) (omega (arith, picked (has 4 map) 3 e))))
     (λ q f. absurd f) λ v₃ c₃ p₃.
-    after_variable (variable_if_there s n (has 4 map) c₃ (within h (omega arith) (omega arith)))
+    after_field (if_there 2 (has 8 map) _ c₃ λ e. label_there s n c₃ (within h (omega arith) (omega (arith, picked (has 8 map) 2 e))))
     (λ q f. absurd f) λ v₄ c₄ p₄.
-    after_word (word_if_there s n (has 8 map) c₄ (within h (omega arith) (omega arith)))
-    (λ q f. absurd f) λ v₅ c₅ p₅.
-    record { holds = refl }
+    record { holds = tt }
 
 item_there : (place : Place) (s : List ℕ) (n map : ℕ) (c : Cursor) → bad_item_map place map ≡ false
     → get_or s c.at 0 ≡ map
-    → Small s n (cursor (c.at + 1)) (suc (fields_width map)) → Of (ItemThere map) (item_at place s n c)
+    → Small s n (cursor (c.at + 1)) (suc (fields_width map)) → Of IsRead (item_at place s n c)
 unfolding item_at map_field byte_field ends pick
 item_there place s n map c lawful is h =
     rw (not_less (length s) (c.at + 1) (omega arith), is, lawful)
-    (after_variable (variable_there s n (cursor (c.at + 1)) (within h (omega arith) (omega arith)))
+    (after_field (variable_there s n (cursor (c.at + 1)) (within h (omega arith) (omega arith)))
     (λ q f. absurd f) λ i c₂ p.
     fields_there s n map i c₂ (within h (omega arith) (omega arith)))
 
@@ -137,7 +139,7 @@ later_items s n map k c next e h =
 -- where they end
 record Ends (place : Place) (s : List ℕ) (n map k : ℕ) (c : Cursor) : Type 0 where
   end : Cursor
-  is : items_end k place s n c ≡ EndRead.At end
+  is : items_end k place s n c ≡ Ok end
   reaches : end.at ≡ c.at + k * width map
 
 items_there : (place : Place) (s : List ℕ) (n map : ℕ) → bad_item_map place map ≡ false → (k : ℕ) (c : Cursor)
@@ -146,20 +148,22 @@ unfolding items_end
 items_there place s n map lawful zero c h = record { end = c; is = refl; reaches = omega arith }
 items_there place s n map lawful (suc k) c h = on (item_at place s n c) refl (items_there place s n map lawful k)
   where
-    there : Of (ItemThere map) (item_at place s n c)
+    there : Of IsRead (item_at place s n c)
     there = let first = first_item s n map k c h in item_there place s n map c lawful first.0 first.1
 
-    found : (x : Item) (next : Cursor) → item_at place s n c ≡ ItemRead.Is x next → next.at ≡ c.at + width map
-        → Ends place s n map k next → Ends place s n map (suc k) c
-    found x next e ahead later =
+    found : (f : Field Item) → item_at place s n c ≡ Ok f → f.next.at ≡ c.at + width map
+        → Ends place s n map k f.next → Ends place s n map (suc k) c
+    found f e ahead later =
         record { end = later.end; is = rw e later.is; reaches = omega (arith, suc-mul k (width map)) }
 
-    on : (r : ItemRead) → item_at place s n c ≡ r → ((c : Cursor) → Items s n map k c → Ends place s n map k c)
+    on : (r : Read Item) → item_at place s n c ≡ r → ((c : Cursor) → Items s n map k c → Ends place s n map k c)
         → Ends place s n map (suc k) c
-    on (ItemRead.Is x next) e rest =
-        let ahead : next.at ≡ c.at + width map = rw (told there e) at (told (item_spans place s n c) e).reaches in
-        found x next e ahead (rest next (later_items s n map k c next ahead h))
-    on (ItemRead.Refused q) e rest = absurd (told there e)
+    on (Ok f) e rest =
+        let read = told (item_spans place s n c) e in
+        let same : read.map ≡ map = sym read.map_is ∙ (first_item s n map k c h).0 in
+        let ahead : f.next.at ≡ c.at + width map = rw same at read.reaches in
+        found f e ahead (rest f.next (later_items s n map k c f.next ahead h))
+    on (Err q) e rest = absurd (told there e)
 
 -- its bytes: the header 7 128 4 0 4 0, from 6 on the map 15 at every ninth byte, from 9222 on the map 4 at every fifth,
 -- and else 0
@@ -262,8 +266,8 @@ module _ (s : List ℕ) (long : length s ≡ longest) (byte : (o : ℕ) → o < 
   inside : (o : ℕ) → o ≤ longest → less (length s) o ≡ false
   inside o h = not_less _ _ (omega arith)
 
-  header_there : header_of s ≡ HeaderRead.Is (header 7 128 1024 1024 (cursor 6))
-  unfolding header_of header_map variable_count count_if count_field byte_field word_field ends head pick
+  header_there : header_of s ≡ Ok (header 7 128 1024 1024 (cursor 6))
+  unfolding header_of header_map variable_count count_if field_if count_field byte_field word_field ends head pick
   header_there =
       rw (
         inside 1 (omega arith),
@@ -287,9 +291,9 @@ module _ (s : List ℕ) (long : length s ≡ longest) (byte : (o : ℕ) → o < 
       )
       refl
 
-  accepted : (asked : Cursor) × (read_sheet s ≡ SheetRead.Accepted (header 7 128 1024 1024 (cursor 6)) asked)
+  accepted_lem : (asked : Cursor) × (read_sheet s ≡ Ok (accepted (header 7 128 1024 1024 (cursor 6)) asked))
   unfolding read_sheet body_of remain width fields_width pick has same
-  accepted =
+  accepted_lem =
       let r = items_there Place.Record s 128 15 lawful_record 1024 (cursor 6) (records (cursor 6) refl) in
       let q = items_there Place.Question s 128 4 lawful_question 1024 r.end (questions r.end r.reaches) in
       (r.end, rw (header_there, r.is, q.is, not_less q.end.at (length s) (omega arith)) refl)
@@ -303,8 +307,8 @@ unfolding longest_sheet
 longest_length = tabled_length longest_byte longest 0
 
 pub longest_accepted : (asked : Cursor)
-    × (read_sheet longest_sheet ≡ SheetRead.Accepted (header 7 128 1024 1024 (cursor 6)) asked)
+    × (read_sheet longest_sheet ≡ Ok (accepted (header 7 128 1024 1024 (cursor 6)) asked))
 unfolding longest_sheet
 longest_accepted =
-    accepted _ (tabled_length longest_byte longest 0)
+    accepted_lem _ (tabled_length longest_byte longest 0)
     (λ o h. tabled_at longest_byte longest 0 o h ∙ ap longest_byte (omega arith))

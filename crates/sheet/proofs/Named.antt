@@ -1,80 +1,113 @@
 -- Every statement and question of a sheet names variables below n, and a question is the one statement of its item.
+use Rattle.std.specs.Prelude.{Option, Some, None, is_some, option_map, option_to_list, unwrap_or, get_or, Result, Ok, Err}
 use Prim.Native.Nat.{ℕ, zero, suc}
-use mathlib.Core.Bool.{Bool, true, false}
+use mathlib.Core.Bool.{true, false, true≢false, false≢true}
 use mathlib.Core.List.{List, [], ◌∷◌, ◌++◌, map}
-use mathlib.Core.Path.{◌≡◌, refl}
+use mathlib.Core.Path.{◌≡◌, refl, ◌∙◌}
 use Rattle.fields.specs.declared.numbers.Cursor.{Cursor}
 use Rattle.fields.specs.declared.refusals.Place.{Place}
-use Rattle.fields.specs.Tests.{pick, has, same}
-use Rattle.fields.proofs.Chains.{Of, either}
+use Rattle.fields.specs.declared.refusals.Refusal.{Refusal}
+use Rattle.fields.specs.Fields.{then_value}
+use Rattle.fields.specs.Tests.{has, same}
+use Rattle.fields.proofs.Extents.{Held, Any}
+use Rattle.fields.proofs.Chains.{Of, after_field}
 use Rattle.items.specs.declared.items.Item.{Item}
 use Rattle.items.specs.declared.items.Statement.{Statement}
 use Rattle.items.specs.Items.{items_of}
-use Rattle.items.specs.Statements.{bit_of, stated_if, statements_of, statement_of, Names, AllName}
+use Rattle.items.specs.Statements.{bit_of, statements_of, statement_of, Names, AllName}
 use Rattle.items.specs.Questions.{holds, question_of, query_of, AllAsk}
-use Rattle.items.proofs.Chains.{after_item}
 use Rattle.items.proofs.Lawful.{Reads, one_bit, item_spans}
-use Rattle.sheet.specs.declared.whole.SheetRead.{SheetRead}
-use Rattle.sheet.specs.Sheets.{Named, sheet, then_sheet, read_sheet, all_statements, asks, sheet_at, sheet_of}
+use Rattle.sheet.specs.declared.whole.Accepted.{Accepted}
+use Rattle.sheet.specs.Sheets.{Named, sheet, read_sheet, all_statements, asks, sheet_at, sheet_of}
 
 both : {n : ℕ} {xs ys : List Statement} → Of (AllName n) xs → Of (AllName n) ys → Of (AllName n) (xs ++ ys)
 both {xs = []} p q = q
 both {xs = x ∷ xs} p q = record { holds = (p.holds.0, (both {xs = xs} (record { holds = p.holds.1 }) q).holds) }
 
-if_stated : {n : ℕ} (stands : Bool) (x : Statement) → (stands ≡ true → Names n x) → Of (AllName n) (stated_if stands x)
-unfolding pick
-if_stated true x p = record { holds = (p refl, tt) }
-if_stated false x p = record { holds = tt }
+-- what a field states, where it is there, names variables below n
+module _ {T : Type 0} {n : ℕ} {Fit : T → Type 0} (make : T → Statement) (names : (v : T) → Fit v → Names n (make v)) where
+  by_stated : (value : Option T) → Held Fit value → Of (AllName n) (option_to_list (option_map make value))
+  by_stated (Some v) h = record { holds = (names v h, tt) }
+  by_stated None h = record { holds = tt }
+
+  by_first : (value : Option T) (other : Statement) → Held Fit value → Of (Names n) other
+      → Of (Names n) (unwrap_or (option_map make value) other)
+  by_first (Some v) other h p = record { holds = names v h }
+  by_first None other h p = p
+
+anything : {T : Type 0} (value : Option T) → Held Any value
+anything (Some v) = tt
+anything None = tt
 
 module _ {place : Place} {s : List ℕ} {n : ℕ} {c next : Cursor} (x : Item) where
   record_names : Reads place s n c x next → Of (AllName n) (statements_of x)
   unfolding statements_of
   record_names r =
-      both (if_stated _ (Statement.Ordering _ _) (λ e. (r.subject, r.target e)))
-      (both (if_stated _ (Statement.Compatibility _ _) (λ e. (r.subject, r.partner e)))
-      (both (if_stated _ (Statement.Selection _ _ _) (λ e. (r.subject, r.child e)))
-      (if_stated _ (Statement.Labelling _ _) (λ e. r.subject))))
+      both (by_stated _ (λ j h. (r.subject, h)) x.target r.target)
+      (both (by_stated _ (λ j h. (r.subject, h)) x.partner r.partner)
+      (both (by_stated _ (λ out h. (r.subject, h)) x.edge r.child)
+      (by_stated _ (λ a h. r.subject) x.label (anything x.label))))
 
   statement_names : Reads place s n c x next → Of (Names n) (statement_of x)
   unfolding statement_of
   statement_names r =
-      either _ _ _ (λ e. record { holds = (r.subject, r.target e) }) λ e.
-      either _ _ _ (λ e. record { holds = (r.subject, r.partner e) }) λ e.
-      either _ _ _ (λ e. record { holds = (r.subject, r.child e) }) λ e.
-      record { holds = r.subject }
+      by_first _ (λ j h. (r.subject, h)) x.target _ r.target
+      (by_first _ (λ j h. (r.subject, h)) x.partner _ r.partner
+      (by_first _ (λ out h. (r.subject, h)) x.edge _ r.child
+      (record { holds = r.subject })))
+
+-- a field that is there, and one that is not
+there : {T C : Type 0} (value : Option T) → is_some value ≡ true → ((v : T) → value ≡ Some v → C) → C
+there (Some v) e on = on v refl
+there None e on = absurd (false≢true e)
+
+absent : {T : Type 0} (value : Option T) → is_some value ≡ false → value ≡ None
+absent (Some v) e = absurd (true≢false e)
+absent None e = refl
 
 -- a question's item states one statement, its map is the bit of that kind, and whether this holds is what is asked
 pub question_alone : {s : List ℕ} {n : ℕ} {c next : Cursor} (x : Item) → Reads Place.Question s n c x next
-    → (statements_of x ≡ statement_of x ∷ []) × (x.map ≡ bit_of (statement_of x))
+    → (statements_of x ≡ statement_of x ∷ []) × (get_or s c.at 0 ≡ bit_of (statement_of x))
     × (query_of (question_of x) ≡ holds (statement_of x))
-unfolding statements_of statement_of question_of pick has same
+unfolding statements_of statement_of question_of has same
 question_alone x r =
-    one_bit x.map r.lawful (λ m. rw m (refl, refl, refl)) (λ m. rw m (refl, refl, refl))
-    (λ m. rw m (refl, refl, refl)) (λ m. rw m (refl, refl, refl))
+    let p₁ = absent x.target in
+    let p₂ = absent x.partner in
+    let p₄ = absent x.edge in
+    let p₈ = absent x.label in
+    one_bit r.map r.lawful
+    (λ m. there x.target (rw m at r.has_target) λ v e.
+    rw (e, p₂ (rw m at r.has_partner), p₄ (rw m at r.has_edge), p₈ (rw m at r.has_label)) (refl, r.map_is ∙ m, refl))
+    (λ m. there x.partner (rw m at r.has_partner) λ v e.
+    rw (p₁ (rw m at r.has_target), e, p₄ (rw m at r.has_edge), p₈ (rw m at r.has_label)) (refl, r.map_is ∙ m, refl))
+    (λ m. there x.edge (rw m at r.has_edge) λ v e.
+    rw (p₁ (rw m at r.has_target), p₂ (rw m at r.has_partner), e, p₈ (rw m at r.has_label)) (refl, r.map_is ∙ m, refl))
+    (λ m. there x.label (rw m at r.has_label) λ v e.
+    rw (p₁ (rw m at r.has_target), p₂ (rw m at r.has_partner), p₄ (rw m at r.has_edge), e) (refl, r.map_is ∙ m, refl))
 
 module _ (s : List ℕ) (n : ℕ) where
   records_name : (k : ℕ) (c : Cursor) → Of (λ xs. AllName n (all_statements xs)) (items_of k Place.Record s n c)
   unfolding items_of
   records_name zero c = record { holds = tt }
   records_name (suc k) c =
-      after_item (item_spans Place.Record s n c) (λ q h. record { holds = tt }) λ x next r.
+      after_field (item_spans Place.Record s n c) (λ q h. record { holds = tt }) λ x next r.
       record { holds = (both (record_names x r) (record { holds = (records_name k next).holds })).holds }
 
   questions_name : (k : ℕ) (c : Cursor) → Of (λ xs. AllAsk n (map asks xs)) (items_of k Place.Question s n c)
   unfolding items_of question_of
   questions_name zero c = record { holds = tt }
   questions_name (suc k) c =
-      after_item (item_spans Place.Question s n c) (λ q h. record { holds = tt }) λ x next r.
+      after_field (item_spans Place.Question s n c) (λ q h. record { holds = tt }) λ x next r.
       record { holds = ((statement_names x r).holds, (questions_name k next).holds) }
 
 pub sheet_named : (s : List ℕ) → Named (sheet_of s)
 unfolding sheet_of sheet_at
 sheet_named s = go (read_sheet s)
   where
-    go : (r : SheetRead) → Named (then_sheet r (λ q. sheet 0 [] []) (sheet_at s))
-    go (SheetRead.Accepted h asked) =
+    go : (r : Result Accepted Refusal) → Named (then_value r (λ q. sheet 0 [] []) (sheet_at s))
+    go (Ok a) =
         record {
-          stated = (records_name s h.variables h.records h.first).holds;
-          asked = (questions_name s h.variables h.questions asked).holds;
+          stated = (records_name s a.header.variables a.header.records a.header.first).holds;
+          asked = (questions_name s a.header.variables a.header.questions a.asked).holds;
         }
-    go (SheetRead.Refused r) = record { stated = tt; asked = tt }
+    go (Err r) = record { stated = tt; asked = tt }

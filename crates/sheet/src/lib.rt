@@ -5,15 +5,9 @@ mod parts;
 mod reading;
 mod whole;
 
-pub use fields::{
-    ByteField, ByteRead, Cursor, Fault, Feature, Label, Place, Refusal, Variable, WordField,
-    WordRead, has_bit,
-};
-pub use headers::{Header, HeaderRead, LARGEST_TABLE, MOST_REPLIES, read_header};
-pub use items::{
-    EndRead, Item, ItemRead, Question, QuestionRead, Statement, items_end, read_question,
-    read_record,
-};
+pub use fields::{Cursor, Fault, Feature, Field, Label, Place, Read, Refusal, Variable, has_bit};
+pub use headers::{Header, LARGEST_TABLE, MOST_REPLIES, read_header};
+pub use items::{Edge, Item, Question, Statement, items_end, read_question, read_record};
 pub use parts::record_part;
 pub use reading::{Reader, behind_record};
-pub use whole::{LONGEST_SHEET, SheetRead, read_sheet};
+pub use whole::{Accepted, LONGEST_SHEET, read_sheet};

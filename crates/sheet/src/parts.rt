@@ -3,10 +3,10 @@ ghost use Rattle.std.specs.Prelude.{◌≡◌};
 ghost use Rattle.sheet.specs.Parts.{part_at, record_bytes};
 
 use crate::reading::behind_record;
-use crate::whole::{SheetRead, read_sheet};
+use crate::whole::read_sheet;
 use fields::Place;
 use headers::Header;
-use items::{EndRead, items_end};
+use items::items_end;
 
 // The bytes of the record that so many records precede.
 #[tactic(auto, using(crate::proofs::Inside::record_inside), unfolding(crate::specs::Parts::part_at))]
@@ -14,9 +14,8 @@ fn part_at<'a>(sheet: &'a [u8], header: Header, which: u16) -> &'a [u8]
     ensures { result.now ≡ part_at sheet.now header which }
 {
     let n = header.variables;
-    let start = match items_end(which, Place::Record, sheet, n, header.first) {
-        EndRead::At(start) => start,
-        EndRead::Refused(_) => return &sheet[..0],
+    let Ok(start) = items_end(which, Place::Record, sheet, n, header.first) else {
+        return &sheet[..0];
     };
     let a = start.at;
     let end = behind_record(sheet, n, start);
@@ -33,13 +32,11 @@ pub fn record_part<'a>(sheet: &'a [u8], which: u32) -> &'a [u8]
     ensures { result.now ≡ record_bytes sheet.now which }
 {
     match read_sheet(sheet) {
-        SheetRead::Accepted(header, _) => {
-            if which < header.records as u32 {
-                part_at(sheet, header, which as u16)
-            } else {
-                &sheet[..0]
-            }
-        }
-        SheetRead::Refused(_) => &sheet[..0],
+        Ok(accepted) if which < accepted.header.records as u32 => part_at(
+            sheet,
+            accepted.header,
+            which as u16,
+        ),
+        _ => &sheet[..0],
     }
 }

@@ -4,10 +4,10 @@ ghost use Rattle.std.specs.Prelude.{◌≡◌, drop};
 ghost use Rattle.fields.specs.declared.refusals.Place.{Place};
 ghost use Rattle.fields.specs.Fields.{byte_field, word_field};
 ghost use Rattle.items.specs.Items.{item_at, question_at};
-ghost use Rattle.sheet.specs.Readings.{bytes_of, started, moved, byte_end, word_end, record_end, question_end};
+ghost use Rattle.sheet.specs.Readings.{bytes_of, started, moved, end_of};
 
-use fields::{ByteRead, Cursor, WordRead, read_byte, read_word};
-use items::{ItemRead, QuestionRead, read_question, read_record};
+use fields::{Cursor, Read, read_byte, read_word};
+use items::{Item, Question, read_question, read_record};
 
 // The sheet, and where what comes next starts.
 #[derive(Clone, Copy)]
@@ -16,40 +16,13 @@ pub struct Reader<'a> {
     pub next: Cursor,
 }
 
-// Where a byte field that was looked for at a cursor ends: where it was refused, there.
-fn byte_end(read: ByteRead, from: Cursor) -> Cursor
-    ensures { result ≡ byte_end read from }
+// Where a field that was looked for at a cursor ends: where it was refused, there.
+fn end_of<T>(read: &Read<T>, from: Cursor) -> Cursor
+    ensures { result ≡ end_of read.now from }
 {
     match read {
-        ByteRead::Is(field) => field.next,
-        ByteRead::Refused(_) => from,
-    }
-}
-
-fn word_end(read: WordRead, from: Cursor) -> Cursor
-    ensures { result ≡ word_end read from }
-{
-    match read {
-        WordRead::Is(field) => field.next,
-        WordRead::Refused(_) => from,
-    }
-}
-
-fn record_end(read: ItemRead, from: Cursor) -> Cursor
-    ensures { result ≡ record_end read from }
-{
-    match read {
-        ItemRead::Is(_, next) => next,
-        ItemRead::Refused(_) => from,
-    }
-}
-
-fn question_end(read: QuestionRead, from: Cursor) -> Cursor
-    ensures { result ≡ question_end read from }
-{
-    match read {
-        QuestionRead::Asks(_, next) => next,
-        QuestionRead::Refused(_) => from,
+        Ok(field) => field.next,
+        Err(_) => from,
     }
 }
 
@@ -72,44 +45,44 @@ impl<'a> Reader<'a> {
         Reader { sheet, next: from }
     }
 
-    // The next field of one byte. A refused reading stays where it is.
-    pub fn next_byte<'s>(&'s mut self) -> ByteRead
-        ensures { (result ≡ byte_field (bytes_of self.old) self.old.next)
-            × (self.new ≡ moved self.old (byte_end result self.old.next)) }
+    // Goes on behind what was read, or stays where it was refused.
+    fn pass<'s, T: Copy>(&'s mut self, read: Read<T>) -> Read<T>
+        ensures { (result ≡ read) × (self.new ≡ moved self.old (end_of read self.old.next)) }
     {
-        let read = read_byte(self.sheet, self.next);
-        self.next = byte_end(read, self.next);
+        self.next = end_of(&read, self.next);
         read
+    }
+
+    // The next field of one byte. A refused reading stays where it is.
+    pub fn next_byte<'s>(&'s mut self) -> Read<u8>
+        ensures { (result ≡ byte_field (bytes_of self.old) self.old.next)
+            × (self.new ≡ moved self.old (end_of result self.old.next)) }
+    {
+        self.pass(read_byte(self.sheet, self.next))
     }
 
     // The next field of two bytes.
-    pub fn next_word<'s>(&'s mut self) -> WordRead
+    pub fn next_word<'s>(&'s mut self) -> Read<u16>
         ensures { (result ≡ word_field (bytes_of self.old) self.old.next)
-            × (self.new ≡ moved self.old (word_end result self.old.next)) }
+            × (self.new ≡ moved self.old (end_of result self.old.next)) }
     {
-        let read = read_word(self.sheet, self.next);
-        self.next = word_end(read, self.next);
-        read
+        self.pass(read_word(self.sheet, self.next))
     }
 
     // The next record, over n variables.
-    pub fn next_record<'s>(&'s mut self, n: u8) -> ItemRead
+    pub fn next_record<'s>(&'s mut self, n: u8) -> Read<Item>
         ensures { (result ≡ item_at Place.Record (bytes_of self.old) n self.old.next)
-            × (self.new ≡ moved self.old (record_end result self.old.next)) }
+            × (self.new ≡ moved self.old (end_of result self.old.next)) }
     {
-        let read = read_record(self.sheet, n, self.next);
-        self.next = record_end(read, self.next);
-        read
+        self.pass(read_record(self.sheet, n, self.next))
     }
 
     // The next question, over n variables.
-    pub fn next_question<'s>(&'s mut self, n: u8) -> QuestionRead
+    pub fn next_question<'s>(&'s mut self, n: u8) -> Read<Question>
         ensures { (result ≡ question_at (bytes_of self.old) n self.old.next)
-            × (self.new ≡ moved self.old (question_end result self.old.next)) }
+            × (self.new ≡ moved self.old (end_of result self.old.next)) }
     {
-        let read = read_question(self.sheet, n, self.next);
-        self.next = question_end(read, self.next);
-        read
+        self.pass(read_question(self.sheet, n, self.next))
     }
 
     // The offset that was reached.
@@ -129,9 +102,9 @@ impl<'a> Reader<'a> {
 
 // How far a reading gets that starts at a cursor and reads one record: nowhere where there is none.
 pub fn behind_record(sheet: &[u8], n: u8, from: Cursor) -> usize
-    ensures { result ≡ (record_end (item_at Place.Record sheet.now n from) from).at }
+    ensures { result ≡ (end_of (item_at Place.Record sheet.now n from) from).at }
 {
     let mut reader = Reader::start(sheet, from);
-    reader.next_record(n);
+    let _ = reader.next_record(n);
     reader.offset()
 }

@@ -1,27 +1,30 @@
 -- The statements of the records read so far stand in the lists.
 use Prim.Native.Nat.{ℕ, ◌+◌, ◌*◌, ◌-◌, ◌<◌, ◌≤◌}
+use lib.ListN.{length, replicate}
 use mathlib.Core.List.{List, [], ◌++◌, append-nil, append_assoc}
 use mathlib.Core.Path.{◌≡◌, sym, ap, subst, ◌∙◌}
 use native.Mathlib.Omega.{arith}
+use Rattle.std.specs.Prelude.{Ok, Err}
+use Rattle.fields.specs.declared.fields.Field.{Field}
 use Rattle.fields.specs.declared.numbers.Cursor.{Cursor}
 use Rattle.fields.specs.declared.refusals.Place.{Place}
 use Rattle.fields.specs.declared.refusals.Refusal.{Refusal}
 use Rattle.fields.specs.Limits.{most_variables, most_items}
-use Rattle.headers.specs.declared.headers.Header.{Header}
-use Rattle.items.specs.declared.items.EndRead.{EndRead}
 use Rattle.items.specs.declared.items.Item.{Item}
-use Rattle.items.specs.declared.items.ItemRead.{ItemRead}
 use Rattle.items.specs.declared.items.Statement.{Statement}
 use Rattle.items.specs.Items.{item_at, items_end, items_of}
 use Rattle.items.specs.Statements.{Names, AllName, statements_of}
 use Rattle.items.proofs.Runs.{run_on, run_reads, items_over, items_on}
+use Rattle.sheet.specs.declared.whole.Accepted.{Accepted}
 use Rattle.sheet.specs.Sheets.{all_statements, sheet_of, sheet_at}
 use Rattle.sheet.proofs.Theorems.{accepted_read, accepted_sheet, accepted_stated}
 use Rattle.rules.proofs.Lists.{all_split, all_name_more}
 use Rattle.selections.proofs.Stands.{no_selections, no_selections_stand}
 use Rattle.labels.proofs.Kept.{no_labels}
 use Rattle.derivation.proofs.Stands.{no_pairs, no_pairs_stand}
-use Rattle.statements.specs.Lists.{Lists, Stand, Sized, Putting, Put, Gathering, Gathered, pairs_room}
+use Rattle.labels.specs.declared.spread.Spread.{Spread}
+use Rattle.statements.specs.declared.lists.Lists.{Lists}
+use Rattle.statements.specs.Lists.{Stand, Putting, Put, Gathering, pairs_room}
 
 -- with so many records left to read, from a cursor on
 pub record Gathers (s : List ℕ) (n left : ℕ) (cursor : Cursor) (x : Lists) : Type 0 where
@@ -31,23 +34,23 @@ pub record Gathers (s : List ℕ) (n left : ℕ) (cursor : Cursor) (x : Lists) :
   pub stand : Stand n done x
   pub rest : (sheet_of s).stated ≡ done ++ all_statements (items_of left Place.Record s n cursor)
   pub end : Cursor
-  pub readable : items_end left Place.Record s n cursor ≡ EndRead.At end
-  pub sized : Sized x
-  pub pairs_fit : x.pairs + 2 * left ≤ pairs_room
-  pub selections_room : x.selections + left ≤ most_items
+  pub readable : items_end left Place.Record s n cursor ≡ Ok end
+  pub pairs_fit : length x.pairs.items + 2 * left ≤ pairs_room
+  pub selections_room : length x.selections.items + left ≤ most_items
 
 -- before the first record
-pub gathers_start : (s : List ℕ) (h : Header) (x : Lists) → x.pairs ≡ 0 → x.selections ≡ 0 → Gathering s h x
-    → Gathers s h.variables h.records h.first x
+pub gathers_start : (s : List ℕ) (a : Accepted) (x : Lists) → x.pairs.items ≡ [] → x.selections.items ≡ []
+    → x.labels.spreads ≡ replicate most_variables Spread.Nothing → Gathering s a
+    → Gathers s a.header.variables a.header.records a.header.first x
 unfolding sheet_at
-gathers_start s h x no_pair no_selection g =
-    let read = accepted_read s h g.asked g.accepted in
-    let is = accepted_sheet s h g.asked g.accepted in
+gathers_start s a x no_pair no_selection no_label g =
+    let read = accepted_read s a g.accepted in
+    let is = accepted_sheet s a g.accepted in
     let few = read.heads.few in
     let records = read.heads.records in
     record {
       few = few;
-      named = accepted_stated s h g.asked g.accepted;
+      named = accepted_stated s a g.accepted;
       done = [];
       stand =
           record {
@@ -55,69 +58,58 @@ gathers_start s h x no_pair no_selection g =
             pairs_stand = rw no_pair no_pairs_stand;
             lawful_selections = rw no_selection (no_selections _ few);
             selections_stand = rw no_selection (no_selections_stand _);
-            labelled = rw g.no_counts (no_labels _ x.labels few g.labels_size);
+            labelled = rw no_label (no_labels _ few);
           };
       rest = ap (λ y. y.stated) is;
-      end = g.asked;
+      end = a.asked;
       readable = read.records_end;
-      sized = g.sized;
-      pairs_fit = omega (arith, no_pair, records);
-      selections_room = omega (arith, no_selection, records);
+      pairs_fit = rw no_pair (omega (arith, records));
+      selections_room = rw no_selection (omega (arith, records));
     }
 
 -- one record
 module _ {s : List ℕ} {n left : ℕ} {cursor : Cursor} {x : Lists} (g : Gathers s n left cursor x) (more : 0 < left) where
-  module _ {item : Item} {next : Cursor} (read : item_at Place.Record s n cursor ≡ ItemRead.Is item next) where
+  module _ {f : Field Item} (read : item_at Place.Record s n cursor ≡ Ok f) where
     split : (sheet_of s).stated
-        ≡ g.done ++ (statements_of item ++ all_statements (items_of (left - 1) Place.Record s n next))
-    split = g.rest ∙ ap (λ y. g.done ++ all_statements y) (items_on Place.Record s n cursor left item next more read)
+        ≡ g.done ++ (statements_of f.value ++ all_statements (items_of (left - 1) Place.Record s n f.next))
+    split = g.rest ∙ ap (λ y. g.done ++ all_statements y) (items_on Place.Record s n cursor left f more read)
 
-    item_named : AllName n (statements_of item)
+    item_named : AllName n (statements_of f.value)
     item_named =
-        let rest = all_statements (items_of (left - 1) Place.Record s n next) in
+        let rest = all_statements (items_of (left - 1) Place.Record s n f.next) in
         let named = subst (AllName n) split g.named in
-        (all_split (Names n) (statements_of item) rest
-        (all_split (Names n) g.done (statements_of item ++ rest) named).1).0
+        (all_split (Names n) (statements_of f.value) rest
+        (all_split (Names n) g.done (statements_of f.value ++ rest) named).1).0
 
-    pub gathers_put : Putting (statements_of item) 2 1 x
+    pub gathers_put : Putting (statements_of f.value) 2 1 x
     gathers_put =
         record {
-          named = all_name_more g.few (statements_of item) item_named;
-          sized = g.sized;
+          named = all_name_more g.few (statements_of f.value) item_named;
           pairs_fit = omega (arith, more, g.pairs_fit);
           selections_room = omega (arith, more, g.selections_room);
         }
 
-    pub gathers_next : {y : Lists} → Put (statements_of item) 2 1 x y → Gathers s n (left - 1) next y
+    pub gathers_next : {y : Lists} → Put (statements_of f.value) 2 1 x y → Gathers s n (left - 1) f.next y
     gathers_next p =
         record {
           few = g.few;
           named = g.named;
-          done = g.done ++ statements_of item;
+          done = g.done ++ statements_of f.value;
           stand = p.stand n g.done item_named g.stand;
-          rest = split ∙ sym (append_assoc g.done (statements_of item) _);
+          rest = split ∙ sym (append_assoc g.done (statements_of f.value) _);
           end = g.end;
-          readable = sym (run_on Place.Record s n cursor left item next more read) ∙ g.readable;
-          sized = p.sized;
+          readable = sym (run_on Place.Record s n cursor left f more read) ∙ g.readable;
           pairs_fit = omega (arith, more, g.pairs_fit, p.more_pairs);
           selections_room = omega (arith, more, g.selections_room, p.more_selections);
         }
 
-  pub none_refused : {r : Refusal} → item_at Place.Record s n cursor ≡ ItemRead.Refused r → ⊥
+  pub none_refused : {r : Refusal} → item_at Place.Record s n cursor ≡ Err r → ⊥
   none_refused e = run_reads Place.Record s n cursor g.end left _ more g.readable e
 
 -- behind the last record
 pub gathers_end : {s : List ℕ} {n left : ℕ} {cursor : Cursor} {x : Lists} → Gathers s n left cursor x → left ≤ 0
-    → Gathered n (sheet_of s).stated x
+    → Stand n (sheet_of s).stated x
 gathers_end {s} {n} {left} {cursor} g over =
     let e = g.rest ∙ ap (λ y. g.done ++ all_statements y) (items_over Place.Record s n cursor left over)
     ∙ append-nil g.done in
-    record {
-      stand = rw e g.stand;
-      cells_hold = omega (arith, g.pairs_fit, g.sized.cells);
-      lefts_hold = omega (arith, g.pairs_fit, g.sized.lefts);
-      rights_hold = omega (arith, g.pairs_fit, g.sized.rights);
-      subjects_hold = omega (arith, g.selections_room, g.sized.subjects);
-      features_hold = omega (arith, g.selections_room, g.sized.features);
-      children_hold = omega (arith, g.selections_room, g.sized.children);
-    }
+    rw e g.stand

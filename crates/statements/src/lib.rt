@@ -6,5 +6,5 @@ mod lists;
 mod stated;
 
 pub use gathering::gather;
-pub use lists::{PAIRS, SELECTIONS, Sizes};
-pub use stated::{StatedLabel, stated_label};
+pub use lists::{Lists, PAIRS, SELECTIONS};
+pub use stated::stated_label;

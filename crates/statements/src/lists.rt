@@ -1,12 +1,17 @@
 // The lists in which statements stand, one statement after another.
-ghost use Rattle.std.specs.Prelude.{◌<◌, set, [], ◌∷◌, ◌≡◌};
-ghost use Rattle.fields.specs.Limits.{most_items};
-ghost use Rattle.items.specs.Statements.{statements_of, stated_if};
-ghost use Rattle.statements.specs.Lists.{lists, pairs_room, pairs_in, selections_in, Putting, Put};
+ghost use Rattle.std.specs.Prelude.{◌<◌, length, replicate, [], ◌∷◌, ◌≡◌, option_to_list};
+ghost use Rattle.fields.specs.Limits.{most_variables, most_items};
+ghost use Rattle.items.specs.Statements.{statements_of};
+ghost use Rattle.labels.specs.declared.spread.Spread.{Spread};
+ghost use Rattle.statements.specs.Lists.{pairs_room, with_pair, with_selection, pairs_in, selections_in};
+ghost use Rattle.statements.specs.Lists.{pairs_if, selections_if, Putting, Put};
 
-use fields::{Feature, MOST_ITEMS, MOST_VARIABLES, Variable, has_bit};
+use arrayvec::ArrayVec;
+use derivation::Pair;
+use fields::{Feature, MOST_ITEMS, Variable};
 use items::{Item, Statement};
-use labels::note_label;
+use labels::Labels;
+use selections::Selection;
 
 // As many pairs as records can state: two each.
 pub const PAIRS: usize = 2 * MOST_ITEMS;
@@ -14,219 +19,79 @@ pub const PAIRS: usize = 2 * MOST_ITEMS;
 // As many selections.
 pub const SELECTIONS: usize = MOST_ITEMS;
 
-// How many pairs and selections stand in the lists.
-#[derive(Clone, Copy)]
-pub struct Sizes {
-    pub pairs: usize,
-    pub selections: usize,
+// What records state: pairs, selections, and the labels of each variable.
+#[derive(Drop)]
+pub struct Lists {
+    pub pairs: ArrayVec<Pair, PAIRS>,
+    pub selections: ArrayVec<Selection, SELECTIONS>,
+    pub labels: Labels,
 }
 
-// Puts a pair at a place.
-fn put_pair(
-    at: usize,
-    cell: u8,
-    i: Variable,
-    j: Variable,
-    cells: &mut [u8; PAIRS],
-    lefts: &mut [u8; PAIRS],
-    rights: &mut [u8; PAIRS],
-)
-    requires { at < pairs_room }
-    ensures cells_after { cells.new ≡ set cells.old at cell }
-    ensures lefts_after { lefts.new ≡ set lefts.old at i.0 }
-    ensures rights_after { rights.new ≡ set rights.old at j.0 }
-{
-    cells[at] = cell;
-    lefts[at] = i.0;
-    rights[at] = j.0;
-}
-
-// Puts a selection at a place.
-fn put_selection(
-    at: usize,
-    i: Variable,
-    f: Feature,
-    j: Variable,
-    subjects: &mut [u8; SELECTIONS],
-    features: &mut [u16; SELECTIONS],
-    children: &mut [u8; SELECTIONS],
-)
-    requires { at < most_items }
-    ensures subjects_after { subjects.new ≡ set subjects.old at i.0 }
-    ensures features_after { features.new ≡ set features.old at f.0 }
-    ensures children_after { children.new ≡ set children.old at j.0 }
-{
-    subjects[at] = i.0;
-    features[at] = f.0;
-    children[at] = j.0;
-}
-
-// Puts a statement behind the others.
-fn put_statement(
-    q: Statement,
-    cells: &mut [u8; PAIRS],
-    lefts: &mut [u8; PAIRS],
-    rights: &mut [u8; PAIRS],
-    subjects: &mut [u8; SELECTIONS],
-    features: &mut [u16; SELECTIONS],
-    children: &mut [u8; SELECTIONS],
-    counts: &mut [u8; MOST_VARIABLES],
-    labels: &mut [u16; MOST_VARIABLES],
-    sizes: Sizes,
-) -> Sizes
-    requires { Putting (q ∷ []) (pairs_in q) (selections_in q)
-        (lists sizes.pairs sizes.selections cells.old lefts.old rights.old subjects.old features.old children.old
-        counts.old labels.old) }
-    ensures { Put (q ∷ []) (pairs_in q) (selections_in q)
-        (lists sizes.pairs sizes.selections cells.old lefts.old rights.old subjects.old features.old children.old
-        counts.old labels.old)
-        (lists result.pairs result.selections cells.new lefts.new rights.new subjects.new features.new children.new
-        counts.new labels.new) }
-{
-    let pairs = sizes.pairs;
-    let selections = sizes.selections;
-    match q {
-        Statement::Ordering(i, j) => {
-            put_pair(pairs, 1, i, j, cells, lefts, rights);
-            Sizes {
-                pairs: pairs + 1,
-                selections: selections,
-            }
-        }
-        Statement::Compatibility(i, j) => {
-            put_pair(pairs, 2, i, j, cells, lefts, rights);
-            Sizes {
-                pairs: pairs + 1,
-                selections: selections,
-            }
-        }
-        Statement::Selection(i, f, j) => {
-            put_selection(selections, i, f, j, subjects, features, children);
-            Sizes {
-                pairs: pairs,
-                selections: selections + 1,
-            }
-        }
-        Statement::Labelling(i, a) => {
-            note_label(counts, labels, i.0 as usize, a.0);
-            Sizes {
-                pairs: pairs,
-                selections: selections,
-            }
+impl Lists {
+    // Lists in which nothing stands.
+    pub(crate) fn empty() -> Lists
+        ensures pairs { result.pairs.items ≡ [] }
+        ensures selections { result.selections.items ≡ [] }
+        ensures labels { result.labels.spreads ≡ replicate most_variables Spread.Nothing }
+    {
+        Lists {
+            pairs: ArrayVec::new(),
+            selections: ArrayVec::new(),
+            labels: Labels::none(),
         }
     }
-}
 
-// Puts a statement behind the others where its bit stands.
-fn put_if(
-    stands: bool,
-    q: Statement,
-    cells: &mut [u8; PAIRS],
-    lefts: &mut [u8; PAIRS],
-    rights: &mut [u8; PAIRS],
-    subjects: &mut [u8; SELECTIONS],
-    features: &mut [u16; SELECTIONS],
-    children: &mut [u8; SELECTIONS],
-    counts: &mut [u8; MOST_VARIABLES],
-    labels: &mut [u16; MOST_VARIABLES],
-    sizes: Sizes,
-) -> Sizes
-    requires { Putting (stated_if stands q) (pairs_in q) (selections_in q)
-        (lists sizes.pairs sizes.selections cells.old lefts.old rights.old subjects.old features.old children.old
-        counts.old labels.old) }
-    ensures { Put (stated_if stands q) (pairs_in q) (selections_in q)
-        (lists sizes.pairs sizes.selections cells.old lefts.old rights.old subjects.old features.old children.old
-        counts.old labels.old)
-        (lists result.pairs result.selections cells.new lefts.new rights.new subjects.new features.new children.new
-        counts.new labels.new) }
-{
-    if stands {
-        return put_statement(
-            q, cells, lefts, rights, subjects, features, children, counts, labels, sizes,
-        );
+    // Puts a pair behind the others.
+    fn put_pair(&mut self, cell: u8, left: Variable, right: Variable)
+        requires { length self.old.pairs.items < pairs_room }
+        ensures { self.new ≡ with_pair self.old cell left.0 right.0 }
+    {
+        self.pairs.push(Pair { cell, left, right });
     }
-    sizes
-}
 
-// Puts what a record states behind the others, by rising bit.
-pub fn put_record(
-    x: Item,
-    cells: &mut [u8; PAIRS],
-    lefts: &mut [u8; PAIRS],
-    rights: &mut [u8; PAIRS],
-    subjects: &mut [u8; SELECTIONS],
-    features: &mut [u16; SELECTIONS],
-    children: &mut [u8; SELECTIONS],
-    counts: &mut [u8; MOST_VARIABLES],
-    labels: &mut [u16; MOST_VARIABLES],
-    sizes: Sizes,
-) -> Sizes
-    requires { Putting (statements_of x) 2 1
-        (lists sizes.pairs sizes.selections cells.old lefts.old rights.old subjects.old features.old children.old
-        counts.old labels.old) }
-    ensures { Put (statements_of x) 2 1
-        (lists sizes.pairs sizes.selections cells.old lefts.old rights.old subjects.old features.old children.old
-        counts.old labels.old)
-        (lists result.pairs result.selections cells.new lefts.new rights.new subjects.new features.new children.new
-        counts.new labels.new) }
-{
-    let map = x.map;
-    let i = x.subject;
-    let target = x.target;
-    let partner = x.partner;
-    let feature = x.feature;
-    let child = x.child;
-    let label = x.label;
-    let with_target = put_if(
-        has_bit(1, map),
-        Statement::Ordering(i, target),
-        cells,
-        lefts,
-        rights,
-        subjects,
-        features,
-        children,
-        counts,
-        labels,
-        sizes,
-    );
-    let with_partner = put_if(
-        has_bit(2, map),
-        Statement::Compatibility(i, partner),
-        cells,
-        lefts,
-        rights,
-        subjects,
-        features,
-        children,
-        counts,
-        labels,
-        with_target,
-    );
-    let with_child = put_if(
-        has_bit(4, map),
-        Statement::Selection(i, feature, child),
-        cells,
-        lefts,
-        rights,
-        subjects,
-        features,
-        children,
-        counts,
-        labels,
-        with_partner,
-    );
-    put_if(
-        has_bit(8, map),
-        Statement::Labelling(i, label),
-        cells,
-        lefts,
-        rights,
-        subjects,
-        features,
-        children,
-        counts,
-        labels,
-        with_child,
-    )
+    // Puts a selection behind the others.
+    fn put_selection(&mut self, subject: Variable, feature: Feature, child: Variable)
+        requires { length self.old.selections.items < most_items }
+        ensures { self.new ≡ with_selection self.old subject.0 feature.0 child.0 }
+    {
+        self.selections.push(Selection {
+            subject,
+            feature,
+            child,
+        });
+    }
+
+    // Puts a statement behind the others.
+    fn put(&mut self, q: Statement)
+        requires { Putting (q ∷ []) (pairs_in q) (selections_in q) self.old }
+        ensures { Put (q ∷ []) (pairs_in q) (selections_in q) self.old self.new }
+    {
+        match q {
+            Statement::Ordering(i, j) => self.put_pair(1, i, j),
+            Statement::Compatibility(i, j) => self.put_pair(2, i, j),
+            Statement::Selection(i, f, j) => self.put_selection(i, f, j),
+            Statement::Labelling(i, a) => self.labels.note(i.index(), a),
+        }
+    }
+
+    // Puts a statement behind the others where there is one.
+    fn put_if(&mut self, q: Option<Statement>)
+        requires { Putting (option_to_list q) (pairs_if q) (selections_if q) self.old }
+        ensures { Put (option_to_list q) (pairs_if q) (selections_if q) self.old self.new }
+    {
+        if let Some(q) = q {
+            self.put(q);
+        }
+    }
+
+    // Puts what a record states behind the others, by rising bit.
+    pub(crate) fn put_record(&mut self, x: Item)
+        requires { Putting (statements_of x) 2 1 self.old }
+        ensures { Put (statements_of x) 2 1 self.old self.new }
+    {
+        self.put_if(x.ordering());
+        self.put_if(x.compatibility());
+        self.put_if(x.selection());
+        self.put_if(x.labelling());
+    }
 }

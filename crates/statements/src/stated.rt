@@ -5,66 +5,37 @@ ghost use Rattle.sheet.specs.Sheets.{sheet_of};
 ghost use Rattle.rules.specs.Replies.{stated_label};
 ghost use Rattle.statements.specs.Stated.{label_in, stated_from};
 
-use sheet::{Cursor, Item, ItemRead, Label, SheetRead, Variable, has_bit, read_record, read_sheet};
-
-#[derive(Clone, Copy)]
-pub enum StatedLabel {
-    Nothing,
-    Is(Label),
-}
+use sheet::{Cursor, Item, Label, Variable, read_record, read_sheet};
 
 // The label that a record states for a variable.
 #[tactic(auto, using(crate::proofs::Labelled::record_label))]
-fn label_of(x: Item, i: Variable) -> StatedLabel
+fn label_of(x: Item, i: Variable) -> Option<Label>
     ensures { label_in result ≡ stated_label (statements_of x) i.0 }
 {
-    let map = x.map;
-    let subject = x.subject;
-    if !has_bit(8, map) {
-        return StatedLabel::Nothing;
-    }
-    if subject.0 != i.0 {
-        return StatedLabel::Nothing;
-    }
-    let a = x.label;
-    StatedLabel::Is(a)
+    if x.subject.0 == i.0 { x.label } else { None }
 }
 
 // The first label that so many records from a cursor on state for a variable.
 #[tactic(auto, using(crate::proofs::Labelled::label_from))]
-fn first_label(sheet: &[u8], n: u8, count: u16, from: Cursor, i: Variable) -> StatedLabel
+fn first_label(sheet: &[u8], n: u8, count: u16, from: Cursor, i: Variable) -> Option<Label>
     ensures { label_in result ≡ stated_label (stated_from count sheet.now n from) i.0 }
 {
-    let mut left = count;
     let mut cursor = from;
-    while 0 < left {
-        match read_record(sheet, n, cursor) {
-            ItemRead::Is(x, next) => match label_of(x, i) {
-                StatedLabel::Nothing => {
-                    cursor = next;
-                    left -= 1;
-                }
-                StatedLabel::Is(a) => return StatedLabel::Is(a),
-            },
-            ItemRead::Refused(_) => return StatedLabel::Nothing,
+    for _ in 0..count {
+        let record = read_record(sheet, n, cursor).ok()?;
+        if let Some(label) = label_of(record.value, i) {
+            return Some(label);
         }
+        cursor = record.next;
     }
-    StatedLabel::Nothing
+    None
 }
 
 // The label that a sheet states for a variable, the first where there are more; none for a refused sheet.
 #[tactic(auto, using(crate::proofs::Labelled::sheet_label))]
-pub fn stated_label(sheet: &[u8], i: Variable) -> StatedLabel
+pub fn stated_label(sheet: &[u8], i: Variable) -> Option<Label>
     ensures { label_in result ≡ stated_label (sheet_of sheet.now).stated i.0 }
 {
-    match read_sheet(sheet) {
-        SheetRead::Accepted(header, _) => first_label(
-            sheet,
-            header.variables,
-            header.records,
-            header.first,
-            i,
-        ),
-        SheetRead::Refused(_) => StatedLabel::Nothing,
-    }
+    let header = read_sheet(sheet).ok()?.header;
+    first_label(sheet, header.variables, header.records, header.first, i)
 }

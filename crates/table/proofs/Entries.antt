@@ -1,17 +1,17 @@
 -- Entries of the queue: between wider bounds, in a queue that has the same there, and one more behind the others.
-use Prim.Native.Nat.{ℕ, ◌+◌, ◌*◌, ◌<◌, ◌≤◌}
-use lib.ListN.{length, get_or, set}
-use lib.Seq.{get_or-set_same, get_or-set_other}
-use mathlib.Core.List.{List}
+use Prim.Native.Nat.{ℕ, ◌+◌, ◌<◌, ◌≤◌}
+use lib.ListN.{length, length-append, get_or-append}
+use lib.Seq.{get_or-append-add}
+use mathlib.Core.List.{List, [], ◌∷◌, ◌++◌}
 use mathlib.Core.Path.{◌≡◌, sym, ap, ◌∙◌}
 use native.Mathlib.Omega.{arith}
-use Rattle.fields.specs.Limits.{most_variables}
 use Rattle.fields.specs.Tests.{same}
 use Rattle.fields.proofs.Choice.{same_true, same_false}
 use Rattle.rules.proofs.Logic.{decided}
-use Rattle.table.specs.Queue.{first_of, second_of, Queued, Entry}
+use Rattle.table.specs.declared.queue.Entry.{Entry}
+use Rattle.table.specs.Queue.{entry, no_entry, entry_at, Queued, IsEntry}
 
-pub wider : {queue : List ℕ} {from upto from' upto' i j : ℕ} → from' ≤ from → upto ≤ upto'
+pub wider : {queue : List Entry} {from upto from' upto' i j : ℕ} → from' ≤ from → upto ≤ upto'
     → Queued queue from upto i j → Queued queue from' upto' i j
 wider h g e =
     record {
@@ -22,27 +22,27 @@ wider h g e =
       second = e.second;
     }
 
-pub carried : {queue queue' : List ℕ} {from upto i j : ℕ}
-    → ((k : ℕ) → k < upto → get_or queue' k 0 ≡ get_or queue k 0)
+pub carried : {queue queue' : List Entry} {from upto i j : ℕ}
+    → ((k : ℕ) → k < upto → entry_at queue' k ≡ entry_at queue k)
     → Queued queue from upto i j → Queued queue' from upto i j
 carried kept e =
     record {
       at = e.at;
       behind = e.behind;
       ahead = e.ahead;
-      first = ap first_of (kept e.at e.ahead) ∙ e.first;
-      second = ap second_of (kept e.at e.ahead) ∙ e.second;
+      first = ap (λ p. p.first.0) (kept e.at e.ahead) ∙ e.first;
+      second = ap (λ p. p.second.0) (kept e.at e.ahead) ∙ e.second;
     }
 
 -- the first entry, or one behind it
-pub first_or_later : {C : Type 0} {queue : List ℕ} {from upto i j : ℕ} → Queued queue from upto i j
-    → (first_of (get_or queue from 0) ≡ i → second_of (get_or queue from 0) ≡ j → C) → (Queued queue (from + 1) upto i j → C)
-    → C
+pub first_or_later : {C : Type 0} {queue : List Entry} {from upto i j : ℕ} → Queued queue from upto i j
+    → ((entry_at queue from).first.0 ≡ i → (entry_at queue from).second.0 ≡ j → C)
+    → (Queued queue (from + 1) upto i j → C) → C
 first_or_later {queue = queue} {from = from} q first later =
     decided (same q.at from)
     (λ p.
-    let e = ap (λ k. get_or queue k 0) (same_true _ _ p) in
-    first (sym (ap first_of e) ∙ q.first) (sym (ap second_of e) ∙ q.second))
+    let e = ap (λ k. entry_at queue k) (same_true _ _ p) in
+    first (sym (ap (λ p. p.first.0) e) ∙ q.first) (sym (ap (λ p. p.second.0) e) ∙ q.second))
     (λ p.
     let other = same_false _ _ p in
     later (record {
@@ -53,27 +53,31 @@ first_or_later {queue = queue} {from = from} q first later =
       second = q.second;
     }))
 
--- x and y behind the entries so far
-module _ (n : ℕ) (queue : List ℕ) (tail x y : ℕ) where
-  abbrev pushed : List ℕ
-  pushed = set queue tail (x * 256 + y)
+-- one more entry behind the entries so far
+module _ (queue : List Entry) (e : Entry) where
+  abbrev pushed : List Entry
+  pushed = queue ++ e ∷ []
 
-  pub pushed_kept : (k : ℕ) → k < tail → get_or pushed k 0 ≡ get_or queue k 0
-  pushed_kept k h = get_or-set_other queue tail k (x * 256 + y) 0 (λ e. omega arith)
+  pub pushed_size : length pushed ≡ length queue + 1
+  pushed_size = length-append queue (e ∷ [])
 
-  module _ (few : n ≤ most_variables) (h : x < n) (g : y < n) (room : tail < length queue) where
-    there : get_or pushed tail 0 ≡ x * 256 + y
-    there = get_or-set_same queue tail (x * 256 + y) 0 room
+  pub pushed_kept : (k : ℕ) → k < length queue → entry_at pushed k ≡ entry_at queue k
+  pushed_kept k h = get_or-append queue (e ∷ []) no_entry k h
 
-    pub pushed_entry : Entry n (get_or pushed tail 0)
-    pushed_entry = rw there (record { first = omega arith; second = omega arith })
+  pub pushed_there : entry_at pushed (length queue) ≡ e
+  pushed_there = ap (entry_at pushed) (omega arith) ∙ get_or-append-add queue (e ∷ []) 0 no_entry
 
-    pub pushed_queued : Queued pushed tail (tail + 1) x y
-    pushed_queued =
-        record {
-          at = tail;
-          behind = omega arith;
-          ahead = omega arith;
-          first = ap first_of there ∙ omega arith;
-          second = ap second_of there ∙ omega arith;
-        }
+-- the entry of x and y behind the entries so far
+module _ (queue : List Entry) (x y : ℕ) where
+  pub pushed_entry : {n : ℕ} → x < n → y < n → IsEntry n (entry_at (queue ++ entry x y ∷ []) (length queue))
+  pushed_entry h g = rw (pushed_there queue (entry x y)) (record { first = h; second = g })
+
+  pub pushed_queued : Queued (queue ++ entry x y ∷ []) (length queue) (length queue + 1) x y
+  pushed_queued =
+      record {
+        at = length queue;
+        behind = omega arith;
+        ahead = omega arith;
+        first = ap (λ p. p.first.0) (pushed_there queue (entry x y));
+        second = ap (λ p. p.second.0) (pushed_there queue (entry x y));
+      }

@@ -1,10 +1,10 @@
 // Table: the fact table behind its accessors, and the queue of changed cells.
 #![tactic(auto)]
 
-mod numbers;
+mod cells;
 mod queue;
 mod table;
 
-pub use numbers::wide;
-pub use queue::{ROOM, first_of, push, second_of};
-pub use table::{clear, copy, lacks, look, says_compatible, says_ordered, store};
+pub use cells::{lacks, says};
+pub use queue::{Entry, Queue, ROOM, push};
+pub use table::{Table, store};

@@ -1,32 +1,33 @@
-// The queue of pairs whose cells changed: an entry for each change, x × 256 + y.
-ghost use Rattle.std.specs.Prelude.{◌+◌, ◌*◌, ◌<◌, set, ◌≡◌};
+// The queue of pairs whose cells changed: an entry for each change.
+ghost use Rattle.std.specs.Prelude.{◌<◌, length, ◌++◌, ◌∷◌, [], ◌≡◌};
 ghost use Rattle.fields.specs.Limits.{most_variables};
-ghost use Rattle.table.specs.Queue.{first_of, second_of, queue_room};
+ghost use Rattle.table.specs.Queue.{entry, queue_room};
 
-use fields::MOST_VARIABLES;
+use arrayvec::ArrayVec;
+use fields::{MOST_VARIABLES, Variable};
 
 // A place for each fact of both kinds, and for the pairs of both kinds that a selection on trial queues.
 pub const ROOM: usize = 2 * MOST_VARIABLES * MOST_VARIABLES + 2 * MOST_VARIABLES;
 
-// One more entry: how many there are then.
-pub fn push(queue: &mut [u16; ROOM], tail: usize, x: usize, y: usize) -> usize
-    requires { (tail < queue_room) × ((x < most_variables) × (y < most_variables)) }
-    ensures { (result ≡ tail + 1) × (queue.new ≡ set queue.old tail (x * 256 + y)) }
-{
-    queue[tail] = (x * 256 + y) as u16;
-    tail + 1
+// A pair whose cell changed.
+#[derive(Clone, Copy, Default)]
+pub struct Entry {
+    pub first: Variable,
+    pub second: Variable,
 }
 
-// The first variable of an entry.
-pub fn first_of(entry: u16) -> usize
-    ensures { result ≡ first_of entry }
-{
-    (entry / 256) as usize
-}
+// The pairs whose children are still to be looked at.
+pub type Queue = ArrayVec<Entry, ROOM>;
 
-// The second variable of an entry.
-pub fn second_of(entry: u16) -> usize
-    ensures { result ≡ second_of entry }
+// One more entry.
+pub fn push(queue: &mut Queue, x: usize, y: usize)
+    requires room { length queue.old.items < queue_room }
+    requires first { x < most_variables }
+    requires second { y < most_variables }
+    ensures { queue.new.items ≡ queue.old.items ++ entry x y ∷ [] }
 {
-    (entry % 256) as usize
+    queue.push(Entry {
+        first: Variable(x as u8),
+        second: Variable(y as u8),
+    });
 }

@@ -1,12 +1,12 @@
 // The printed lines.
-use engine::{HeaderRead, Outcome, StatedLabel, Variable};
+use engine::{Outcome, Variable};
 use std::io::{Result, Write};
 
 // A variable, and the label that the sheet states for it.
 fn variable(out: &mut impl Write, sheet: &[u8], i: u8) -> Result<()> {
     match engine::stated_label(sheet, Variable(i)) {
-        StatedLabel::Nothing => writeln!(out, "var {i} -"),
-        StatedLabel::Is(label) => writeln!(out, "var {i} {}", label.0),
+        None => writeln!(out, "var {i} -"),
+        Some(label) => writeln!(out, "var {i} {}", label.0),
     }
 }
 
@@ -42,21 +42,19 @@ fn consistent(
     compatibilities: u16,
     replies: &[u8],
 ) -> Result<()> {
-    match engine::read_header(sheet) {
-        HeaderRead::Is(h) => {
-            let n = h.variable_count();
-            writeln!(out, "consistent {n} {orderings} {compatibilities}")?;
-            variables(out, sheet, n)?;
-            questions(out, h.reply_count(), replies)
-        }
-        HeaderRead::Refused(_) => Ok(()),
-    }
+    let Ok(header) = engine::read_header(sheet) else {
+        return Ok(());
+    };
+    let n = header.variable_count();
+    writeln!(out, "consistent {n} {orderings} {compatibilities}")?;
+    variables(out, sheet, n)?;
+    questions(out, header.reply_count(), replies)
 }
 
 // All lines of an outcome.
 pub fn print(out: &mut impl Write, sheet: &[u8], outcome: Outcome, replies: &[u8]) -> Result<()> {
     match outcome {
-        Outcome::Refused(fault, at) => writeln!(out, "refused {} {at}", fault.number()),
+        Outcome::Refused(fault, at) => writeln!(out, "refused {} {at}", u8::from(fault)),
         Outcome::Clash(i, j) => writeln!(out, "clash {} {}", i.0, j.0),
         Outcome::Consistent(orderings, compatibilities) => {
             consistent(out, sheet, orderings, compatibilities, replies)

@@ -9,7 +9,8 @@ use Rattle.fields.specs.Tests.{same}
 use Rattle.fields.proofs.Choice.{is_same, not_same}
 use Rattle.items.specs.declared.items.Statement.{Statement}
 use Rattle.rules.specs.Connectives.{◌and◌, ◌or◌}
-use Rattle.rules.specs.Facts.{Kind, ordered, compatible, Relation, Holds}
+use Rattle.rules.specs.declared.kinds.Kind.{Kind}
+use Rattle.rules.specs.Facts.{Relation, Holds}
 use Rattle.rules.specs.Stated.{selection, labelling, Stated, some_selection}
 use Rattle.rules.specs.Support.{under_child, over_child}
 use Rattle.rules.proofs.Logic.{either_first, either_second, either_of}
@@ -24,16 +25,16 @@ module _ (st : List Statement) (r : Relation) (i f : ℕ) where
   -- z ~ x: by 4.4 where some k[f]m has i ≤ k and m ~ x, by 4.5 where some k[f]m has k ~ i and x ≤ m
   unfoldable pub compatible_child : ℕ → Bool
   compatible_child x =
-      (some_selection st λ k g m. same f g and (r ordered i k and r compatible m x))
-      or (some_selection st λ k g m. same f g and (r compatible k i and r ordered x m))
+      (some_selection st λ k g m. same f g and (r Kind.Ordered i k and r Kind.Compatible m x))
+      or (some_selection st λ k g m. same f g and (r Kind.Compatible k i and r Kind.Ordered x m))
 
   -- the facts of x and y, told whether each of them is z: 4.2 for x ≤ z, 4.3 for z ≤ y, 4.1 for z and itself
   abbrev pub between : Kind → Bool → Bool → ℕ → ℕ → Bool
   between kind false false x y = r kind x y
-  between ordered false true x y = under_child st r i f x
-  between ordered true false x y = over_child st r i f y
-  between compatible false true x y = compatible_child x
-  between compatible true false x y = compatible_child y
+  between Kind.Ordered false true x y = under_child st r i f x
+  between Kind.Ordered true false x y = over_child st r i f y
+  between Kind.Compatible false true x y = compatible_child x
+  between Kind.Compatible true false x y = compatible_child y
   between kind true true x y = true
 
 unfoldable pub with_child : ℕ → List Statement → Relation → ℕ → ℕ → Relation
@@ -41,20 +42,22 @@ with_child n st r i f kind x y = between st r i f kind (same x n) (same y n) x y
 
 module _ {st : List Statement} (r : Relation) {i f : ℕ} where
   -- 4.4 and 4.5 by a selection, and the selection from them
-  pub compatible_over : {k m x : ℕ} → Stated st (selection k f m) → Holds r ordered i k → Holds r compatible m x
+  pub compatible_over : {k m x : ℕ} → Stated st (selection k f m) → Holds r Kind.Ordered i k
+      → Holds r Kind.Compatible m x
       → compatible_child st r i f x ≡ true
   unfolding compatible_child
   compatible_over s p q = either_first _ (by_selection_at f _ _ s p q)
 
-  pub compatible_under : {k m x : ℕ} → Stated st (selection k f m) → Holds r compatible k i → Holds r ordered x m
+  pub compatible_under : {k m x : ℕ} → Stated st (selection k f m) → Holds r Kind.Compatible k i
+      → Holds r Kind.Ordered x m
       → compatible_child st r i f x ≡ true
   unfolding compatible_child
   compatible_under s p q = either_second _ (by_selection_at f _ _ s p q)
 
 module _ (st : List Statement) (r : Relation) (i f : ℕ) where
   pub compatible_of : {C : Type 0} (x : ℕ) → compatible_child st r i f x ≡ true
-      → ((k m : ℕ) → Stated st (selection k f m) → Holds r ordered i k → Holds r compatible m x → C)
-      → ((k m : ℕ) → Stated st (selection k f m) → Holds r compatible k i → Holds r ordered x m → C) → C
+      → ((k m : ℕ) → Stated st (selection k f m) → Holds r Kind.Ordered i k → Holds r Kind.Compatible m x → C)
+      → ((k m : ℕ) → Stated st (selection k f m) → Holds r Kind.Compatible k i → Holds r Kind.Ordered x m → C) → C
   unfolding compatible_child
   compatible_of x p over under =
       either_of _ _ p (λ q. one_selection_at st f _ _ q over) (λ q. one_selection_at st f _ _ q under)
@@ -69,8 +72,8 @@ module _ (n : ℕ) (st : List Statement) (r : Relation) (i f : ℕ) where
   -- two old variables have their old facts
   pub old_pair : (kind : Kind) (x y : ℕ) → x < n → y < n → more kind x y ≡ r kind x y
   unfolding with_child
-  old_pair ordered x y h k = rw (is_old h, is_old k) refl
-  old_pair compatible x y h k = rw (is_old h, is_old k) refl
+  old_pair Kind.Ordered x y h k = rw (is_old h, is_old k) refl
+  old_pair Kind.Compatible x y h k = rw (is_old h, is_old k) refl
 
   pub to_more : (kind : Kind) {x y : ℕ} → x < n → y < n → Holds r kind x y → Holds more kind x y
   to_more kind {x} {y} h k p = old_pair kind x y h k ∙ p
@@ -79,15 +82,15 @@ module _ (n : ℕ) (st : List Statement) (r : Relation) (i f : ℕ) where
   from_more kind {x} {y} h k p = sym (old_pair kind x y h k) ∙ p
 
   -- the new variable and an old one
-  pub below_new : (x : ℕ) → x < n → more ordered x n ≡ under_child st r i f x
+  pub below_new : (x : ℕ) → x < n → more Kind.Ordered x n ≡ under_child st r i f x
   unfolding with_child
   below_new x h = rw (is_old h, is_same n n refl) refl
 
-  pub new_below : (x : ℕ) → x < n → more ordered n x ≡ over_child st r i f x
+  pub new_below : (x : ℕ) → x < n → more Kind.Ordered n x ≡ over_child st r i f x
   unfolding with_child
   new_below x h = rw (is_old h, is_same n n refl) refl
 
-  pub new_compatible : (x : ℕ) → x < n → more compatible n x ≡ compatible_child st r i f x
+  pub new_compatible : (x : ℕ) → x < n → more Kind.Compatible n x ≡ compatible_child st r i f x
   unfolding with_child
   new_compatible x h = rw (is_old h, is_same n n refl) refl
 

@@ -7,7 +7,8 @@ use native.Mathlib.Omega.{arith}
 use Rattle.fields.specs.Tests.{same}
 use Rattle.fields.proofs.Choice.{is_same}
 use Rattle.items.specs.declared.items.Statement.{Statement}
-use Rattle.rules.specs.Facts.{ordered, Relation, Holds}
+use Rattle.rules.specs.declared.kinds.Kind.{Kind}
+use Rattle.rules.specs.Facts.{Relation, Holds}
 use Rattle.rules.specs.Stated.{selection, Stated}
 use Rattle.rules.proofs.Lists.{named}
 use Rattle.rules.proofs.Supported.{under_of, over_of}
@@ -48,27 +49,27 @@ module _ {n : ℕ} {st : List Statement} {r : Relation} (L : Laws n st r) (i f :
   module _ (K : Ranked st r) where
     -- the children at f of the variables below i
     abbrev children : List ℕ
-    children = children_at f (λ k. r ordered k i) st
+    children = children_at f (λ k. r Kind.Ordered k i) st
 
     -- the rank of x, told whether it is the new variable
     abbrev rank_by : Bool → ℕ → ℕ
     rank_by true x = least_above_all K.rank children
     rank_by false x = suc (K.rank x)
 
-    above_children : {k m : ℕ} → Stated st (selection k f m) → Holds r ordered k i
+    above_children : {k m : ℕ} → Stated st (selection k f m) → Holds r Kind.Ordered k i
         → suc (K.rank m) ≤ least_above_all K.rank children
     above_children s p = least_above K.rank children (child_found f _ st s p)
 
     below_bound : {most : ℕ}
-        → ((k m : ℕ) → Stated st (selection k f m) → Holds r ordered k i → suc (K.rank m) ≤ most)
+        → ((k m : ℕ) → Stated st (selection k f m) → Holds r Kind.Ordered k i → suc (K.rank m) ≤ most)
         → least_above_all K.rank children ≤ most
     below_bound h =
         above_least K.rank children λ m d.
-        child_from f (λ k. r ordered k i) st d λ k s p.
+        child_from f (λ k. r Kind.Ordered k i) st d λ k s p.
         h k m s p
 
     -- ranks do not fall along ≤
-    between_rises : (a b : Bool) (x y : ℕ) → between st r i f ordered a b x y ≡ true → rank_by a x ≤ rank_by b y
+    between_rises : (a b : Bool) (x y : ℕ) → between st r i f Kind.Ordered a b x y ≡ true → rank_by a x ≤ rank_by b y
     between_rises false false x y p = omega (arith, K.rises p)
     between_rises false true x y p =
         under_of st r i f x p λ k m s h l.
@@ -76,10 +77,10 @@ module _ {n : ℕ} {st : List Statement} {r : Relation} (L : Laws n st r) (i f :
     between_rises true false x y p =
         over_of st r i f y p λ k m s h l.
         below_bound λ k' m' s' h'.
-        omega (arith, K.rises (descends L ordered s' (through L ordered h' h) s), K.rises l)
+        omega (arith, K.rises (descends L Kind.Ordered s' (through L Kind.Ordered h' h) s), K.rises l)
     between_rises true true x y p = omega arith
 
-    more_rises : (x y : ℕ) → Holds more ordered x y → rank_by (same x n) x ≤ rank_by (same y n) y
+    more_rises : (x y : ℕ) → Holds more Kind.Ordered x y → rank_by (same x n) x ≤ rank_by (same y n) y
     unfolding with_child
     more_rises x y p = between_rises (same x n) (same y n) x y p
 

@@ -1,15 +1,14 @@
 -- For every list of bytes that the reader accepts, demands 2 and 3 hold of its sheet.
 use Prim.Native.Nat.{ℕ}
+use Rattle.std.specs.Prelude.{Ok}
 use mathlib.Core.Bool.{true, false}
 use mathlib.Core.List.{List}
 use mathlib.Core.Logic.{◌↔◌}
 use mathlib.Core.Path.{◌≡◌}
-use Rattle.fields.specs.declared.numbers.Cursor.{Cursor}
-use Rattle.headers.specs.declared.headers.Header.{Header}
 use Rattle.items.specs.declared.items.Statement.{Statement}
 use Rattle.items.specs.Questions.{holds, Asks}
 use Rattle.items.specs.Statements.{All, Names}
-use Rattle.sheet.specs.declared.whole.SheetRead.{SheetRead}
+use Rattle.sheet.specs.declared.whole.Accepted.{Accepted}
 use Rattle.sheet.specs.Sheets.{Sheet, read_sheet, sheet_at}
 use Rattle.sheet.proofs.Theorems.{accepted_names}
 use Rattle.rules.specs.declared.replies.Reply.{Reply}
@@ -21,14 +20,14 @@ use Rattle.trees.specs.Assignments.{Counts}
 use Rattle.trees.specs.Demand.{Answers, Demand3}
 use Rattle.trees.proofs.Meaning.{exactly, never_by_trial}
 
-module _ (b : List ℕ) (h : Header) (asked : Cursor) (accepted : read_sheet b ≡ SheetRead.Accepted h asked) where
+module _ (b : List ℕ) (a : Accepted) (accepted : read_sheet b ≡ Ok a) where
   -- its sheet: n variables, what its records state and its questions ask
   abbrev sheet : Sheet
-  sheet = sheet_at b h asked
+  sheet = sheet_at b a
 
   -- the facts are those that F1 to F4 derive, a clash is told where F5 applies, replies agree with support
   pub demand_2 : Demand2 sheet
-  demand_2 = Facts.demand_2 sheet (accepted_names b h asked accepted).stated
+  demand_2 = Facts.demand_2 sheet (accepted_names b a accepted).stated
 
   -- and no closed set of facts, given by a test or not, is smaller
   pub demand_2_smallest : Smallest sheet
@@ -36,15 +35,15 @@ module _ (b : List ℕ) (h : Header) (asked : Cursor) (accepted : read_sheet b �
 
   -- each answer is given exactly when it is true of trees
   pub demand_3 : Demand3 sheet
-  demand_3 = exactly sheet (accepted_names b h asked accepted).stated
+  demand_3 = exactly sheet (accepted_names b a accepted).stated
 
   -- so the reply to each question of the sheet, where it is consistent, is given exactly when it is true
   pub demand_3_asked : fails sheet ≡ false → All (λ q. Answers (Counts sheet) q (reply_to sheet q)) sheet.asked
   demand_3_asked e =
-      all_map (Asks sheet.n) _ sheet.asked (demand_3.answers e) (accepted_names b h asked accepted).asked
+      all_map (Asks sheet.n) _ sheet.asked (demand_3.answers e) (accepted_names b a accepted).asked
 
   -- and never exactly where the sheet that states what is asked fails
   pub never_where_it_fails : fails sheet ≡ false → (x : Statement) → Names sheet.n x
       → (reply_to sheet (holds x) ≡ Reply.Never) ↔ (fails_with sheet x ≡ true)
   never_where_it_fails e x named =
-      never_by_trial sheet (accepted_names b h asked accepted).stated e x named
+      never_by_trial sheet (accepted_names b a accepted).stated e x named

@@ -9,7 +9,8 @@ use Rattle.fields.proofs.Choice.{is_same, same_true, same_false}
 use Rattle.items.specs.declared.items.Statement.{Statement}
 use Rattle.items.specs.Statements.{Names, AllName}
 use Rattle.rules.specs.Connectives.{◌or◌}
-use Rattle.rules.specs.Facts.{Kind, ordered, compatible, Relation, Holds, Closed}
+use Rattle.rules.specs.declared.kinds.Kind.{Kind}
+use Rattle.rules.specs.Facts.{Relation, Holds, Closed}
 use Rattle.rules.specs.Stated.{selection, labelling, Stated}
 use Rattle.rules.specs.Derived.{derived, facts_of}
 use Rattle.rules.specs.Clashes.{clashes_at, clashes}
@@ -54,19 +55,19 @@ module _ (n : ℕ) (st : List Statement) (fit : AllName n st) where
   self kind i = either_first _ (is_same i i refl)
 
   -- F1.2 and F3.2
-  through : (kind : Kind) (i j k : ℕ) → Holds related ordered i j → Holds related kind j k
+  through : (kind : Kind) (i j k : ℕ) → Holds related Kind.Ordered i j → Holds related kind j k
       → Holds related kind i k
   through kind i j k p q =
-      by_cases ordered i j p
+      by_cases Kind.Ordered i j p
       (λ e. subst (λ x. Holds related kind x k) (sym e) q)
       (λ h h' p'. from_fact kind i k ((derived_closed n st fit).through kind i j k p' (to_fact kind j k h' q)))
 
   -- F3.3
-  symmetric : (i j : ℕ) → Holds related compatible i j → Holds related compatible j i
+  symmetric : (i j : ℕ) → Holds related Kind.Compatible i j → Holds related Kind.Compatible j i
   symmetric i j p =
-      by_cases compatible i j p
-      (λ e. subst (λ x. Holds related compatible x i) e (self compatible i))
-      (λ h h' q. from_fact compatible j i ((derived_closed n st fit).symmetric i j q))
+      by_cases Kind.Compatible i j p
+      (λ e. subst (λ x. Holds related Kind.Compatible x i) e (self Kind.Compatible i))
+      (λ h h' q. from_fact Kind.Compatible j i ((derived_closed n st fit).symmetric i j q))
 
   -- F2 and F4
   descends : (kind : Kind) (f i i' j j' : ℕ) → Stated st (selection i f i') → Holds related kind i j
@@ -76,14 +77,14 @@ module _ (n : ℕ) (st : List Statement) (fit : AllName n st) where
       (to_fact kind i j (named n st fit s).0 p) s')
 
   -- F5 where the statements do not clash
-  labels_agree : clashes st n ≡ false → (i j a b : ℕ) → Holds related compatible i j
+  labels_agree : clashes st n ≡ false → (i j a b : ℕ) → Holds related Kind.Compatible i j
       → Stated st (labelling i a) → Stated st (labelling j b) → a ≡ b
   unfolding clashes_at
   labels_agree e i j a b p s s' =
       let h = named n st fit s in
       let clear = not_clashing st n e i j h (named n st fit s') in
       decided (same a b) (same_true a b)
-      (λ d. absurd (contrary (both (to_fact compatible i j h p) (differ_by s s' (same_false a b d))) clear))
+      (λ d. absurd (contrary (both (to_fact Kind.Compatible i j h p) (differ_by s s' (same_false a b d))) clear))
 
   related_closed : Closed n st (Holds related)
   related_closed =
@@ -111,10 +112,11 @@ module _ (n : ℕ) (st : List Statement) (fit : AllName n st) where
       record {
         pairs = λ kind i j h h' p. to_fact kind i j h p;
         unders = λ i f j k m h h' s a b.
-            under_by (facts_of st n) s (to_fact ordered k i (named n st fit s).0 a) (to_fact ordered j m h' b);
+            under_by (facts_of st n) s (to_fact Kind.Ordered k i (named n st fit s).0 a)
+            (to_fact Kind.Ordered j m h' b);
         overs = λ i f j k m h h' s a b.
-            over_by (facts_of st n) s (to_fact ordered i k h a) (to_fact ordered m j (named n st fit s).1 b);
-        labels = λ i a k h s b. label_by (facts_of st n) s (to_fact ordered k i (named n st fit s) b);
+            over_by (facts_of st n) s (to_fact Kind.Ordered i k h a) (to_fact Kind.Ordered m j (named n st fit s).1 b);
+        labels = λ i a k h s b. label_by (facts_of st n) s (to_fact Kind.Ordered k i (named n st fit s) b);
       }
 
   pub related_supported : (q : Statement) → Names n q → supported st related q ≡ true

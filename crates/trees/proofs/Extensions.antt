@@ -6,7 +6,8 @@ use mathlib.Core.Path.{◌≡◌, refl, ◌∙◌}
 use native.Mathlib.Omega.{arith}
 use Rattle.items.specs.declared.items.Statement.{Statement}
 use Rattle.items.specs.Statements.{Names}
-use Rattle.rules.specs.Facts.{Kind, ordered, Relation, Holds}
+use Rattle.rules.specs.declared.kinds.Kind.{Kind}
+use Rattle.rules.specs.Facts.{Relation, Holds}
 use Rattle.rules.specs.Stated.{selection, Stated}
 use Rattle.rules.specs.Support.{supported}
 use Rattle.rules.proofs.Lists.{names_more}
@@ -15,7 +16,7 @@ use Rattle.trees.proofs.Structures.{Laws}
 -- ranks of variables: no lower above, lower at a child; they bound the depth of least trees
 pub record Ranked (st : List Statement) (r : Relation) : Type 0 where
   pub rank : ℕ → ℕ
-  pub rises : {i j : ℕ} → Holds r ordered i j → rank i ≤ rank j
+  pub rises : {i j : ℕ} → Holds r Kind.Ordered i j → rank i ≤ rank j
   pub falls : {i f j : ℕ} → Stated st (selection i f j) → rank j < rank i
 
 -- from n variables, st and r to n', st' and r'

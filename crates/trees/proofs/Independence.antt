@@ -6,7 +6,7 @@ use mathlib.Core.Path.{◌≡◌, subst}
 use Rattle.items.specs.declared.items.Statement.{Statement}
 use Rattle.items.specs.Statements.{AllName, All, Names}
 use Rattle.sheet.specs.Sheets.{Sheet}
-use Rattle.rules.specs.Facts.{ordered}
+use Rattle.rules.specs.declared.kinds.Kind.{Kind}
 use Rattle.rules.specs.Replies.{fails, supports}
 use Rattle.rules.proofs.Logic.{refuted, contrary}
 use Rattle.rules.proofs.Lists.{all_from}
@@ -39,9 +39,9 @@ module _ (s : Sheet) (fit : AllName s.n s.stated) (consistent : fails s ≡ fals
   pub least_of_all : (v : Assignment) → Meets s v → (i : ℕ) → i < s.n → Below (least_of i) (v i)
   least_of_all v m =
       least_under (derived_laws s.n s.stated fit consistent) v m.trees m.kept λ i j p.
-      by_cases s.n s.stated fit ordered i j p
-      (λ e. subst (λ x. Below (v i) (v x)) e (related_self ordered (v i)))
-      (λ h h' q. true_fact s.n s.stated v m.kept ordered i j q)
+      by_cases s.n s.stated fit Kind.Ordered i j p
+      (λ e. subst (λ x. Below (v i) (v x)) e (related_self Kind.Ordered (v i)))
+      (λ h h' q. true_fact s.n s.stated v m.kept Kind.Ordered i j q)
 
   none_supported : (qs : List Statement) → AllName s.n qs → NoneFollows s qs
       → NoneSupported s.stated (related s.n s.stated fit) qs

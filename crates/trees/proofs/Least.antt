@@ -5,7 +5,8 @@ use mathlib.Core.Bool.{true}
 use mathlib.Core.List.{List, [], ◌∷◌, ◌++◌}
 use mathlib.Core.Path.{◌≡◌}
 use Rattle.items.specs.declared.items.Statement.{Statement}
-use Rattle.rules.specs.Facts.{ordered, compatible, Relation, Holds}
+use Rattle.rules.specs.declared.kinds.Kind.{Kind}
+use Rattle.rules.specs.Facts.{Relation, Holds}
 use Rattle.rules.specs.Support.{under_label}
 use Rattle.rules.specs.Stated.{selection, Stated}
 use Rattle.rules.proofs.Supported.{label_by}
@@ -27,7 +28,7 @@ module _ {n : ℕ} {st : List Statement} {r : Relation} (L : Laws n st r) where
   step_together f set other h k l u w =
       step_in L u λ k' m s v p.
       step_in L w λ l' m' s' v' q.
-      compatible_below L p (descends L compatible s (h k' l' v v') s') q
+      compatible_below L p (descends L Kind.Compatible s (h k' l' v v') s') q
 
   -- a larger set has a larger tree
   walk_paths : (p : Path) (set other : List ℕ) → Inside st r set other
@@ -59,29 +60,29 @@ module _ {n : ℕ} {st : List Statement} {r : Relation} (L : Laws n st r) where
   walk_beginning [] f set x = root_in L (step st r f set) x (λ k u. step_in L u (λ k' m s v h. in_root L set v))
   walk_beginning (g ∷ p) f set x = walk_beginning p f (step st r g set) x
 
-  one_inside : {i j : ℕ} → Holds r ordered i j → Inside st r (i ∷ []) (j ∷ [])
-  one_inside h k u = one_in L u (λ p. in_one L (through L ordered p h))
+  one_inside : {i j : ℕ} → Holds r Kind.Ordered i j → Inside st r (i ∷ []) (j ∷ [])
+  one_inside h k u = one_in L u (λ p. in_one L (through L Kind.Ordered p h))
 
-  one_together : {i j : ℕ} → Holds r compatible i j → Together st r (i ∷ []) (j ∷ [])
+  one_together : {i j : ℕ} → Holds r Kind.Compatible i j → Together st r (i ∷ []) (j ∷ [])
   one_together h k l u w = one_in L u (λ p. one_in L w (λ q. compatible_below L p h q))
 
   self_together : (i : ℕ) → Together st r (i ∷ []) (i ∷ [])
-  self_together i = one_together (L.self compatible i)
+  self_together i = one_together (L.self Kind.Compatible i)
 
   -- where i[f]j is stated, the children of i at f are the set of j
   children_inside : {i f j : ℕ} → Stated st (selection i f j) → Inside st r (step st r f (i ∷ [])) (j ∷ [])
   children_inside s k u =
       step_in L u λ k' m s' v p.
       one_in L v λ q.
-      in_one L (through L ordered p (descends L ordered s' q s))
+      in_one L (through L Kind.Ordered p (descends L Kind.Ordered s' q s))
 
   inside_children : {i f j : ℕ} → Stated st (selection i f j) → Inside st r (j ∷ []) (step st r f (i ∷ []))
-  inside_children {i} s k u = one_in L u (λ p. in_step L s (in_one L (L.self ordered i)) p)
+  inside_children {i} s k u = one_in L u (λ p. in_step L s (in_one L (L.self Kind.Ordered i)) p)
 
   keeps_selection : {i f j : ℕ} → Stated st (selection i f j) → Child (least st r i) f (least st r j)
   keeps_selection {i} {f} {j} s =
       record {
-        present = in_root L (step st r f (i ∷ [])) (inside_children s j (in_one L (L.self ordered j)));
+        present = in_root L (step st r f (i ∷ [])) (inside_children s j (in_one L (L.self Kind.Ordered j)));
         subtree = both_below
             (walk_below (step st r f (i ∷ [])) (j ∷ []) (children_inside s) (self_together j))
             (walk_below (j ∷ []) (step st r f (i ∷ [])) (inside_children s)
@@ -91,22 +92,22 @@ module _ {n : ℕ} {st : List Statement} {r : Relation} (L : Laws n st r) where
   pub least_tree : (i : ℕ) → IsTree (least st r i)
   least_tree i =
       record {
-        root = in_root L (i ∷ []) (in_one L (L.self ordered i));
+        root = in_root L (i ∷ []) (in_one L (L.self Kind.Ordered i));
         beginnings = λ p f. walk_beginning p f (i ∷ []);
       }
 
-  pub least_below : {i j : ℕ} → Holds r ordered i j → Below (least st r i) (least st r j)
+  pub least_below : {i j : ℕ} → Holds r Kind.Ordered i j → Below (least st r i) (least st r j)
   least_below {i} {j} h = walk_below (i ∷ []) (j ∷ []) (one_inside h) (self_together j)
 
-  pub least_compatible : {i j : ℕ} → Holds r compatible i j → Compatible (least st r i) (least st r j)
+  pub least_compatible : {i j : ℕ} → Holds r Kind.Compatible i j → Compatible (least st r i) (least st r j)
   least_compatible {i} {j} h = record { labels = λ p a b. walk_compatible p a b (i ∷ []) (j ∷ []) (one_together h) }
 
   pub least_keeps : (x : Statement) → Stated st x → Satisfies (least st r) x
-  least_keeps (Statement.Ordering i j) s = least_below (L.closed.stated ordered i.0 j.0 s)
-  least_keeps (Statement.Compatibility i j) s = least_compatible (L.closed.stated compatible i.0 j.0 s)
+  least_keeps (Statement.Ordering i j) s = least_below (L.closed.stated Kind.Ordered i.0 j.0 s)
+  least_keeps (Statement.Compatibility i j) s = least_compatible (L.closed.stated Kind.Compatible i.0 j.0 s)
   least_keeps (Statement.Selection i f j) s = keeps_selection s
   least_keeps (Statement.Labelling i a) s =
-      label_root L (i.0 ∷ []) (self_together i.0) s (in_one L (L.self ordered i.0))
+      label_root L (i.0 ∷ []) (self_together i.0) s (in_one L (L.self Kind.Ordered i.0))
 
   pub least_meets : SatisfiesAll (least st r) st
   least_meets = all_by (Satisfies (least st r)) st least_keeps
@@ -117,7 +118,7 @@ module _ {n : ℕ} {st : List Statement} {r : Relation} (L : Laws n st r) where
 
   -- an assignment that meets the statements and is true to the order has all of the least solution
   module _ (v : Assignment) (trees : (i : ℕ) → i < n → IsTree (v i)) (kept : SatisfiesAll v st)
-      (true_to : (i j : ℕ) → Holds r ordered i j → Below (v i) (v j)) where
+      (true_to : (i j : ℕ) → Holds r Kind.Ordered i j → Below (v i) (v j)) where
     -- each variable of the set has a tree below t
     abbrev Under : List ℕ → Tree → Type 0
     Under set t = (k : ℕ) → In st r k set → (k < n) × Below (v k) t
@@ -125,8 +126,9 @@ module _ {n : ℕ} {st : List Statement} {r : Relation} (L : Laws n st r) where
     step_under : (f : ℕ) (set : List ℕ) (t : Tree) → Under set t → Under (step st r f set) (λ p. t (f ∷ p))
     step_under f set t h k u =
         step_in L u λ k' m s w p. (
-          left_variable L ordered p (named n st L.fit s).1,
-          related_through ordered (v k) (v m) _ (true_to k m p) (child_below (all_one (Satisfies v) st kept s) (h k' w).1),
+          left_variable L Kind.Ordered p (named n st L.fit s).1,
+          related_through Kind.Ordered (v k) (v m) _ (true_to k m p)
+              (child_below (all_one (Satisfies v) st kept s) (h k' w).1),
         )
 
     walk_under : (p : Path) (set : List ℕ) (t : Tree) → Under set t
@@ -142,4 +144,4 @@ module _ {n : ℕ} {st : List Statement} {r : Relation} (L : Laws n st r) where
         record { paths = λ p. (walk_under p (i ∷ []) (v i) start).0; labels = λ p. (walk_under p (i ∷ []) (v i) start).1 }
       where
         start : Under (i ∷ []) (v i)
-        start k u = one_in L u (λ p. (left_variable L ordered p h, true_to k i p))
+        start k u = one_in L u (λ p. (left_variable L Kind.Ordered p h, true_to k i p))

@@ -9,7 +9,8 @@ use Rattle.fields.specs.Tests.{less}
 use Rattle.fields.proofs.Choice.{is_less, not_less}
 use Rattle.items.specs.declared.items.Statement.{Statement}
 use Rattle.items.specs.Statements.{Names}
-use Rattle.rules.specs.Facts.{Kind, ordered, compatible, fact, Relation, Holds, Closed}
+use Rattle.rules.specs.declared.kinds.Kind.{Kind}
+use Rattle.rules.specs.Facts.{fact, Relation, Holds, Closed}
 use Rattle.rules.specs.Stated.{selection, labelling, Stated}
 use Rattle.rules.proofs.Logic.{contrary}
 use Rattle.rules.proofs.Supported.{under_by, over_by, label_by, Carries, carried}
@@ -23,9 +24,9 @@ use Rattle.trees.proofs.Marks.{second_label, label_origin}
 
 module _ {n : ℕ} {st : List Statement} {r : Relation} (L : Laws n st r) where
   -- related variables are compatible
-  as_compatible : (kind : Kind) {x y : ℕ} → Holds r kind x y → Holds r compatible x y
-  as_compatible ordered {x} {y} p = through L compatible p (L.self compatible y)
-  as_compatible compatible p = p
+  as_compatible : (kind : Kind) {x y : ℕ} → Holds r kind x y → Holds r Kind.Compatible x y
+  as_compatible Kind.Ordered {x} {y} p = through L Kind.Compatible p (L.self Kind.Compatible y)
+  as_compatible Kind.Compatible p = p
 
   -- an old selection has no new feature
   pub not_unused : {k m : ℕ} (x : ℕ) {g : ℕ} → Stated st (selection k g m) → g ≡ mark_of st x → ⊥
@@ -40,21 +41,21 @@ module _ {n : ℕ} {st : List Statement} {r : Relation} (L : Laws n st r) where
   marked_descends kind g x x' y y' (own h e c) p (old s') = absurd (not_unused x s' e)
   marked_descends kind g x x' y y' (own h e c) p (own h' e' c') = rw (c, c') (L.self kind n)
   marked_descends kind g x x' y y' (own h e c) p (against z h' h'' d e' c') =
-      absurd (contrary (subst (λ w. Holds r compatible w y) (omega arith) (as_compatible kind p)) d)
+      absurd (contrary (subst (λ w. Holds r Kind.Compatible w y) (omega arith) (as_compatible kind p)) d)
   marked_descends kind g x x' y y' (against z h h' d e c) p (old s') = absurd (not_unused z s' e)
   marked_descends kind g x x' y y' (against z h h' d e c) p (own h'' e' c') =
-      absurd (contrary (subst (λ w. Holds r compatible w x) (omega arith) (symmetric L (as_compatible kind p))) d)
+      absurd (contrary (subst (λ w. Holds r Kind.Compatible w x) (omega arith) (symmetric L (as_compatible kind p))) d)
   marked_descends kind g x x' y y' (against z h h' d e c) p (against z' h'' h''' d' e' c') =
       rw (c, c') (L.self kind (suc n))
 
   -- F5: a new variable is compatible with itself alone
-  new_alone : (x y : ℕ) → Holds r compatible x y → n ≤ x → x ≡ y
-  new_alone x y p h = ⊎_elim (λ e. e) (λ b. absurd (omega (arith, b.0))) (L.apart compatible x y p)
+  new_alone : (x y : ℕ) → Holds r Kind.Compatible x y → n ≤ x → x ≡ y
+  new_alone x y p h = ⊎_elim (λ e. e) (λ b. absurd (omega (arith, b.0))) (L.apart Kind.Compatible x y p)
 
   subject_inside : {k a : ℕ} → Stated st (labelling k a) → k < n
   subject_inside s = named n st L.fit s
 
-  marked_agree : (x y a b : ℕ) → Holds r compatible x y → LabelOrigin n st r x a → LabelOrigin n st r y b → a ≡ b
+  marked_agree : (x y a b : ℕ) → Holds r Kind.Compatible x y → LabelOrigin n st r x a → LabelOrigin n st r y b → a ≡ b
   marked_agree x y a b p (old_label s) (old_label s') = one_label L p s s'
   marked_agree x y a b p (first_labelling e c) (first_labelling e' c') = omega arith
   marked_agree x y a b p (second_label e c) (second_label e' c') = omega arith
@@ -70,12 +71,12 @@ module _ {n : ℕ} {st : List Statement} {r : Relation} (L : Laws n st r) where
   marked_agree x y a b p (second_label e c) (first_labelling e' c') = omega (arith, new_alone x y p (omega arith))
 
   marked_stated : (kind : Kind) (x y : ℕ) → Stated (marked n st r) (fact kind x y) → Holds r kind x y
-  marked_stated ordered x y s =
+  marked_stated Kind.Ordered x y s =
       from_marked n st r s (λ e. absurd (is_labelling e)) (λ e. absurd (is_labelling e))
-      (λ m. absurd (mark_selection n st r m)) (λ o. L.closed.stated ordered x y o)
-  marked_stated compatible x y s =
+      (λ m. absurd (mark_selection n st r m)) (λ o. L.closed.stated Kind.Ordered x y o)
+  marked_stated Kind.Compatible x y s =
       from_marked n st r s (λ e. absurd (is_labelling e)) (λ e. absurd (is_labelling e))
-      (λ m. absurd (mark_selection n st r m)) (λ o. L.closed.stated compatible x y o)
+      (λ m. absurd (mark_selection n st r m)) (λ o. L.closed.stated Kind.Compatible x y o)
 
   marked_names : (z : Statement) → Stated (marked n st r) z → Names (suc (suc n)) z
   marked_names z s =
@@ -127,11 +128,11 @@ module _ {n : ℕ} {st : List Statement} {r : Relation} (L : Laws n st r) where
       record {
         pairs = λ kind x y h h' p. p;
         unders = λ x g y k m h h' s a b.
-            under_by r (old_child k g m (right_variable L ordered b h') (selection_origin n st r k g m s)) a b;
+            under_by r (old_child k g m (right_variable L Kind.Ordered b h') (selection_origin n st r k g m s)) a b;
         overs = λ x g y k m h h' s a b.
-            over_by r (old_child k g m (left_variable L ordered b h') (selection_origin n st r k g m s)) a b;
+            over_by r (old_child k g m (left_variable L Kind.Ordered b h') (selection_origin n st r k g m s)) a b;
         labels = λ x a k h s b.
-            label_by r (old_subject k a (left_variable L ordered b h) (label_origin n st r k a s)) b;
+            label_by r (old_subject k a (left_variable L Kind.Ordered b h) (label_origin n st r k a s)) b;
       }
 
   module _ (K : Ranked st r) where
@@ -146,10 +147,10 @@ module _ {n : ℕ} {st : List Statement} {r : Relation} (L : Laws n st r) where
     new_rank : (x : ℕ) → n ≤ x → rank_by (less x n) x ≡ 0
     new_rank x h = rw (not_less x n h) refl
 
-    marked_rises : (x y : ℕ) → Holds r ordered x y → rank_by (less x n) x ≤ rank_by (less y n) y
+    marked_rises : (x y : ℕ) → Holds r Kind.Ordered x y → rank_by (less x n) x ≤ rank_by (less y n) y
     marked_rises x y p =
         ⊎_elim (λ e. subst (λ w. rank_by (less x n) x ≤ rank_by (less w n) w) e (omega arith))
-        (λ b. omega (arith, old_rank x b.0, old_rank y b.1, K.rises p)) (L.apart ordered x y p)
+        (λ b. omega (arith, old_rank x b.0, old_rank y b.1, K.rises p)) (L.apart Kind.Ordered x y p)
 
     marked_falls : (k g m : ℕ) → Origin n st r k g m → rank_by (less m n) m < rank_by (less k n) k
     marked_falls k g m (old s) =

@@ -10,7 +10,8 @@ use borrow.Author.Tests.{not-true}
 use native.Mathlib.Omega.{arith}
 use Rattle.fields.specs.Tests.{pick}
 use Rattle.items.specs.declared.items.Statement.{Statement}
-use Rattle.rules.specs.Facts.{compatible, Relation}
+use Rattle.rules.specs.declared.kinds.Kind.{Kind}
+use Rattle.rules.specs.Facts.{Relation}
 use Rattle.rules.specs.Stated.{selection, labelling, Stated}
 use Rattle.rules.proofs.Logic.{last_or_before}
 use Rattle.trees.proofs.Structures.{same_selection, same_labelling, IsSelection, is_selection, is_labelling}
@@ -41,7 +42,7 @@ module _ (n : ℕ) (st : List Statement) (r : Relation) where
   unfoldable pub marks_against : ℕ → ℕ → List Statement
   marks_against x zero = []
   marks_against x (suc y) =
-      pick (not (r compatible x y)) (selection y (mark_of st x) (suc n) ∷ marks_against x y) (marks_against x y)
+      pick (not (r Kind.Compatible x y)) (selection y (mark_of st x) (suc n) ∷ marks_against x y) (marks_against x y)
 
   -- of all x below m
   unfoldable pub marks : ℕ → List Statement
@@ -54,7 +55,8 @@ module _ (n : ℕ) (st : List Statement) (r : Relation) where
   -- a statement of the marks
   pub data Mark (z : Statement) : Type 0 where
     own : (x : ℕ) → x < n → z ≡ selection x (mark_of st x) n → Mark z
-    against : (x y : ℕ) → x < n → y < n → r compatible x y ≡ false → z ≡ selection y (mark_of st x) (suc n) → Mark z
+    against : (x y : ℕ) → x < n → y < n → r Kind.Compatible x y ≡ false → z ≡ selection y (mark_of st x) (suc n)
+        → Mark z
 
   pub mark_selection : {z : Statement} → Mark z → IsSelection z
   mark_selection (own x h e) = is_selection e
@@ -65,7 +67,7 @@ module _ (n : ℕ) (st : List Statement) (r : Relation) where
   unfolding marks_against
   mark_against {z = z} x zero h k s = elim s [ ]
   mark_against x (suc y) h k s =
-      in_choice (not (r compatible x y)) s (λ e same_mark. against x y h k (not-true _ e) same_mark)
+      in_choice (not (r Kind.Compatible x y)) s (λ e same_mark. against x y h k (not-true _ e) same_mark)
       (mark_against x y h (omega arith))
 
   mark_of_stated : {z : Statement} (m : ℕ) → m ≤ n → Stated (marks m) z → Mark z
@@ -75,7 +77,7 @@ module _ (n : ℕ) (st : List Statement) (r : Relation) where
   mark_of_stated (suc x) h (Memᴰ.tail s) =
       ⊎_elim (mark_against x n h (omega arith)) (mark_of_stated x (omega arith)) (Memᴰ.append_cases (marks_against x n) s)
 
-  against_mark : (x y m : ℕ) → y < m → r compatible x y ≡ false
+  against_mark : (x y m : ℕ) → y < m → r Kind.Compatible x y ≡ false
       → Stated (marks_against x m) (selection y (mark_of st x) (suc n))
   unfolding marks_against
   against_mark x y zero h e = elim h [ ]
@@ -111,7 +113,7 @@ module _ (n : ℕ) (st : List Statement) (r : Relation) where
   unfolding marked
   own_in x h = Memᴰ.tail (Memᴰ.tail (Memᴰ.append_left st (mark_in x n h (Memᴰ.head refl))))
 
-  pub against_in : (x y : ℕ) → x < n → y < n → r compatible x y ≡ false
+  pub against_in : (x y : ℕ) → x < n → y < n → r Kind.Compatible x y ≡ false
       → Stated marked (selection y (mark_of st x) (suc n))
   unfolding marked
   against_in x y h k e =
@@ -129,13 +131,13 @@ module _ (n : ℕ) (st : List Statement) (r : Relation) where
   pub data Origin (k g m : ℕ) : Type 0 where
     old : Stated st (selection k g m) → Origin k g m
     own : k < n → g ≡ mark_of st k → m ≡ n → Origin k g m
-    against : (x : ℕ) → x < n → k < n → r compatible x k ≡ false → g ≡ mark_of st x → m ≡ suc n → Origin k g m
+    against : (x : ℕ) → x < n → k < n → r Kind.Compatible x k ≡ false → g ≡ mark_of st x → m ≡ suc n → Origin k g m
 
   mark_origin : (k g m : ℕ) → Mark (selection k g m) → Origin k g m
   mark_origin k g m (own x h e) = same_selection e (λ ek eg em. own (omega arith) (omega arith) em)
   mark_origin k g m (against x y h h' c e) =
       same_selection e λ ek eg em.
-      against x h (omega arith) (subst (λ w. r compatible x w ≡ false) (sym ek) c) eg em
+      against x h (omega arith) (subst (λ w. r Kind.Compatible x w ≡ false) (sym ek) c) eg em
 
   pub selection_origin : (k g m : ℕ) → Stated marked (selection k g m) → Origin k g m
   selection_origin k g m s =

@@ -2,7 +2,7 @@
 use Prim.Native.Nat.{ℕ}
 use mathlib.Core.List.{◌∷◌}
 use mathlib.Core.Path.{◌≡◌, refl, sym, subst, ◌∙◌}
-use Rattle.rules.specs.Facts.{Kind, ordered, compatible}
+use Rattle.rules.specs.declared.kinds.Kind.{Kind}
 use Rattle.trees.specs.Trees.{Node, absent, bare, labelled, Present, Path, Tree, Below, Compatible, Child}
 
 pub label_of : {a b : ℕ} → labelled a ≡ labelled b → a ≡ b
@@ -22,19 +22,19 @@ present_label e = subst Present (sym e) tt
 
 -- ≤ or ~ of two trees
 abbrev pub Related : Kind → Tree → Tree → Type 0
-Related ordered t u = Below t u
-Related compatible t u = Compatible t u
+Related Kind.Ordered t u = Below t u
+Related Kind.Compatible t u = Compatible t u
 
 -- F1.1 and F3.1
 pub related_self : (kind : Kind) (t : Tree) → Related kind t t
-related_self ordered t = record { paths = λ p h. h; labels = λ p a e. e }
-related_self compatible t = record { labels = λ p a b d e. label_of (sym d ∙ e) }
+related_self Kind.Ordered t = record { paths = λ p h. h; labels = λ p a e. e }
+related_self Kind.Compatible t = record { labels = λ p a b d e. label_of (sym d ∙ e) }
 
 -- F1.2 and F3.2
 pub related_through : (kind : Kind) (t u w : Tree) → Below t u → Related kind u w → Related kind t w
-related_through ordered t u w l m =
+related_through Kind.Ordered t u w l m =
     record { paths = λ p h. m.paths p (l.paths p h); labels = λ p a e. m.labels p a (l.labels p a e) }
-related_through compatible t u w l m = record { labels = λ p a b d e. m.labels p a b (l.labels p a d) e }
+related_through Kind.Compatible t u w l m = record { labels = λ p a b d e. m.labels p a b (l.labels p a d) e }
 
 -- F3.3
 pub compatible_turned : {t u : Tree} → Compatible t u → Compatible u t
@@ -59,9 +59,9 @@ below_child {f} c l =
 -- F2 and F4
 pub related_children : (kind : Kind) (f : ℕ) (t t' u u' : Tree)
     → Child t f t' → Related kind t u → Child u f u' → Related kind t' u'
-related_children ordered f t t' u u' c l d =
-    related_through ordered t' (λ p. u (f ∷ p)) u' (child_below c l) (below_child d (related_self ordered u))
-related_children compatible f t t' u u' c l d =
+related_children Kind.Ordered f t t' u u' c l d =
+    related_through Kind.Ordered t' (λ p. u (f ∷ p)) u' (child_below c l) (below_child d (related_self Kind.Ordered u))
+related_children Kind.Compatible f t t' u u' c l d =
     record { labels = λ p a b x y. l.labels (f ∷ p) a b (c.subtree p ∙ x) (d.subtree p ∙ y) }
 
 -- what stands in both directions is equal

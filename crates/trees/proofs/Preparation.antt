@@ -8,7 +8,8 @@ use mathlib.Core.Path.{◌≡◌, refl, ◌∙◌}
 use native.Mathlib.Omega.{arith}
 use Rattle.items.specs.declared.items.Statement.{Statement}
 use Rattle.items.specs.Statements.{All, Names, AllName}
-use Rattle.rules.specs.Facts.{ordered, compatible, Relation}
+use Rattle.rules.specs.declared.kinds.Kind.{Kind}
+use Rattle.rules.specs.Facts.{Relation}
 use Rattle.rules.specs.Stated.{selection, Stated}
 use Rattle.rules.specs.Support.{supported, under_child, under_label}
 use Rattle.rules.proofs.Logic.{both, decided, refuted, contrary}
@@ -23,12 +24,12 @@ pub record Differs (n : ℕ) (st : List Statement) (r : Relation) (i f j : ℕ) 
   pub child : ℕ
   pub variable : child < n
   pub stated : Stated st (selection i f child)
-  pub differs : (r ordered j child ≡ false) ⊎ (r ordered child j ≡ false)
+  pub differs : (r Kind.Ordered j child ≡ false) ⊎ (r Kind.Ordered child j ≡ false)
 
 -- what makes a question break in the marked structure
 abbrev pub Breakable : (n : ℕ) (st : List Statement) (r : Relation) → Statement → Type 0
-Breakable n st r (Statement.Ordering i j) = r ordered i.0 j.0 ≡ false
-Breakable n st r (Statement.Compatibility i j) = r compatible i.0 j.0 ≡ false
+Breakable n st r (Statement.Ordering i j) = r Kind.Ordered i.0 j.0 ≡ false
+Breakable n st r (Statement.Compatibility i j) = r Kind.Compatible i.0 j.0 ≡ false
 Breakable n st r (Statement.Selection i f j) = Differs n st r i.0 f.0 j.0
 Breakable n st r (Statement.Labelling i a) = under_label st r i.0 a.0 ≡ false
 
@@ -44,16 +45,16 @@ module _ {n n' : ℕ} {st st' : List Statement} {r r' : Relation} (e : Extends n
 
   still_breakable : (q : Statement) → Names n q → Breakable n st r q → Breakable n' st' r' q
   unfolding supported
-  still_breakable (Statement.Ordering i j) h p = e.same_facts ordered i.0 j.0 h.0 h.1 ∙ p
-  still_breakable (Statement.Compatibility i j) h p = e.same_facts compatible i.0 j.0 h.0 h.1 ∙ p
+  still_breakable (Statement.Ordering i j) h p = e.same_facts Kind.Ordered i.0 j.0 h.0 h.1 ∙ p
+  still_breakable (Statement.Compatibility i j) h p = e.same_facts Kind.Compatible i.0 j.0 h.0 h.1 ∙ p
   still_breakable (Statement.Selection i f j) h p =
       record {
         child = p.child;
         variable = omega (arith, e.larger, p.variable);
         stated = e.keeps p.stated;
         differs = ⊎_elim
-            (λ d. inl (e.same_facts ordered j.0 p.child h.1 p.variable ∙ d))
-            (λ d. inr (e.same_facts ordered p.child j.0 p.variable h.1 ∙ d)) p.differs;
+            (λ d. inl (e.same_facts Kind.Ordered j.0 p.child h.1 p.variable ∙ d))
+            (λ d. inr (e.same_facts Kind.Ordered p.child j.0 p.variable h.1 ∙ d)) p.differs;
       }
   still_breakable (Statement.Labelling i a) h p = still_unsupported (Statement.Labelling i a) h p
 
@@ -67,7 +68,7 @@ pub record Prepared (n : ℕ) (st : List Statement) (r : Relation) (qs : List St
 
 -- where i[f]j is not supported, the new child of i is not both above and below j
 missing : (n : ℕ) (st : List Statement) (r : Relation) (i f j : ℕ) → j < n → supported st r (selection i f j) ≡ false
-    → (with_child n st r i f ordered j n ≡ false) ⊎ (with_child n st r i f ordered n j ≡ false)
+    → (with_child n st r i f Kind.Ordered j n ≡ false) ⊎ (with_child n st r i f Kind.Ordered n j ≡ false)
 unfolding supported
 missing n st r i f j h u =
     decided (under_child st r i f j)

@@ -4,7 +4,8 @@ use mathlib.Core.List.{List}
 use mathlib.Core.Logic.{⊎_elim}
 use Rattle.items.specs.declared.items.Statement.{Statement}
 use Rattle.items.specs.Statements.{Names, AllName}
-use Rattle.rules.specs.Facts.{ordered, Relation}
+use Rattle.rules.specs.declared.kinds.Kind.{Kind}
+use Rattle.rules.specs.Facts.{Relation}
 use Rattle.rules.specs.Stated.{selection}
 use Rattle.rules.specs.Support.{supported}
 use Rattle.rules.proofs.Logic.{contrary}
@@ -39,7 +40,7 @@ module _ {n : ℕ} {st : List Statement} {r : Relation} (L : Laws n st r) where
 
       equal_children : (x y : ℕ) → Child (met i) f (met x) → Child (met i) f (met y) → Below (met x) (met y)
       equal_children x y a b =
-          related_children ordered f (met i) (met x) (met i) (met y) a (related_self ordered (met i)) b
+          related_children Kind.Ordered f (met i) (met x) (met i) (met y) a (related_self Kind.Ordered (met i)) b
 
   breaks : (q : Statement) → Names n q → Breakable n st r q → Falsifies met q
   unfolding supported

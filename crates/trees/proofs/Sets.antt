@@ -6,7 +6,8 @@ use mathlib.Core.List.{List, [], ◌∷◌}
 use mathlib.Core.Option.{Option}
 use mathlib.Core.Path.{◌≡◌, refl, ap, subst}
 use Rattle.items.specs.declared.items.Statement.{Statement}
-use Rattle.rules.specs.Facts.{ordered, compatible, Relation, Holds}
+use Rattle.rules.specs.declared.kinds.Kind.{Kind}
+use Rattle.rules.specs.Facts.{Relation, Holds}
 use Rattle.rules.specs.Stated.{selection, labelling, Stated, any, first_label}
 use Rattle.rules.proofs.Some.{any_by, any_one}
 use Rattle.rules.proofs.Labels.{first_from, first_found}
@@ -19,7 +20,7 @@ use Rattle.trees.proofs.Lookups.{children_at, node_of, child_from, child_found, 
 module _ (st : List Statement) (r : Relation) where
   -- k is in the set
   abbrev pub under : ℕ → List ℕ → Bool
-  under k set = any (λ g. r ordered k g) set
+  under k set = any (λ g. r Kind.Ordered k g) set
 
   pub record In (k : ℕ) (set : List ℕ) : Type 0 where
     pub holds : under k set ≡ true
@@ -52,30 +53,30 @@ module _ (st : List Statement) (r : Relation) where
 
   -- what is in the one set is compatible with what is in the other
   abbrev pub Together : List ℕ → List ℕ → Type 0
-  Together set other = (k l : ℕ) → In k set → In l other → Holds r compatible k l
+  Together set other = (k l : ℕ) → In k set → In l other → Holds r Kind.Compatible k l
 
 module _ {n : ℕ} {st : List Statement} {r : Relation} (L : Laws n st r) where
   -- the set of one variable
-  pub in_one : {k i : ℕ} → Holds r ordered k i → In st r k (i ∷ [])
-  in_one {k} h = record { holds = any_by (λ g. r ordered k g) _ (Memᴰ.head refl) h }
+  pub in_one : {k i : ℕ} → Holds r Kind.Ordered k i → In st r k (i ∷ [])
+  in_one {k} h = record { holds = any_by (λ g. r Kind.Ordered k g) _ (Memᴰ.head refl) h }
 
-  pub one_in : {C : Type 0} {k i : ℕ} → In st r k (i ∷ []) → (Holds r ordered k i → C) → C
+  pub one_in : {C : Type 0} {k i : ℕ} → In st r k (i ∷ []) → (Holds r Kind.Ordered k i → C) → C
   one_in {C} {k} {i} u next =
-      any_one (λ g. r ordered k g) (i ∷ []) u.holds λ x m h.
-      next (subst (Holds r ordered k) (Memᴰ.eq_of_singleton m) h)
+      any_one (λ g. r Kind.Ordered k g) (i ∷ []) u.holds λ x m h.
+      next (subst (Holds r Kind.Ordered k) (Memᴰ.eq_of_singleton m) h)
 
   -- the set of the children
-  pub in_step : {f k k' m : ℕ} {set : List ℕ} → Stated st (selection k' f m) → In st r k' set → Holds r ordered k m
+  pub in_step : {f k k' m : ℕ} {set : List ℕ} → Stated st (selection k' f m) → In st r k' set → Holds r Kind.Ordered k m
       → In st r k (step st r f set)
   unfolding step
   in_step {f} {k} s u h =
-      record { holds = any_by (λ g. r ordered k g) _ (child_found f _ st s u.holds) h }
+      record { holds = any_by (λ g. r Kind.Ordered k g) _ (child_found f _ st s u.holds) h }
 
   pub step_in : {C : Type 0} {f k : ℕ} {set : List ℕ} → In st r k (step st r f set)
-      → ((k' m : ℕ) → Stated st (selection k' f m) → In st r k' set → Holds r ordered k m → C) → C
+      → ((k' m : ℕ) → Stated st (selection k' f m) → In st r k' set → Holds r Kind.Ordered k m → C) → C
   unfolding step
   step_in {C} {f} {k} {set} u next =
-      any_one (λ g. r ordered k g) _ u.holds λ m d h.
+      any_one (λ g. r Kind.Ordered k g) _ u.holds λ m d h.
       child_from f (λ x. under st r x set) st d λ k' s q.
       next k' m s (record { holds = q }) h
 
@@ -91,7 +92,7 @@ module _ {n : ℕ} {st : List Statement} {r : Relation} (L : Laws n st r) where
   pub root_in : {C : Type 0} (set : List ℕ) → Present (root_of st r set) → ((k : ℕ) → In st r k set → C) → C
   root_in [] h next = absurd h
   root_in (g ∷ set) h next =
-      next g (record { holds = any_by (λ x. r ordered g x) _ (Memᴰ.head refl) (L.self ordered g) })
+      next g (record { holds = any_by (λ x. r Kind.Ordered g x) _ (Memᴰ.head refl) (L.self Kind.Ordered g) })
 
   -- a label at the root is stated of a variable in the set
   pub root_label : {C : Type 0} {a : ℕ} (set : List ℕ) → root_of st r set ≡ labelled a

@@ -4,7 +4,8 @@ use mathlib.Core.Bool.{true}
 use mathlib.Core.List.{List, [], ◌∷◌}
 use mathlib.Core.Path.{◌≡◌}
 use Rattle.items.specs.declared.items.Statement.{Statement}
-use Rattle.rules.specs.Facts.{Kind, ordered, compatible, fact, Holds, Closed}
+use Rattle.rules.specs.declared.kinds.Kind.{Kind}
+use Rattle.rules.specs.Facts.{fact, Holds, Closed}
 use Rattle.rules.specs.Stated.{selection, Stated}
 use Rattle.rules.specs.Derived.{facts_of}
 use Rattle.rules.specs.Clashes.{clashes_at, clashes}
@@ -24,8 +25,8 @@ module _ (n : ℕ) (st : List Statement) (v : Assignment) (kept : SatisfiesAll v
   keeps s = all_one (Satisfies v) st kept s
 
   kept_fact : (kind : Kind) (i j : ℕ) → Stated st (fact kind i j) → Related kind (v i) (v j)
-  kept_fact ordered i j s = keeps s
-  kept_fact compatible i j s = keeps s
+  kept_fact Kind.Ordered i j s = keeps s
+  kept_fact Kind.Compatible i j s = keeps s
 
   -- ≤ and ~ between the trees are a closed set of facts
   trees_closed : Closed n st (λ kind i j. Related kind (v i) (v j))
@@ -49,7 +50,7 @@ module _ (n : ℕ) (st : List Statement) (v : Assignment) (kept : SatisfiesAll v
   no_clash e =
       clashing st n e λ i j c.
       differ_of st i j (second_of_and _ _ c.applies) λ a b s s' d.
-      let agreeing = true_fact compatible i j (first_of_and _ _ c.applies) in
+      let agreeing = true_fact Kind.Compatible i j (first_of_and _ _ c.applies) in
       d (agreeing.labels [] a b (keeps s) (keeps s'))
 
   -- a supported selection is true: the subtree lies below and above
@@ -59,21 +60,21 @@ module _ (n : ℕ) (st : List Statement) (v : Assignment) (kept : SatisfiesAll v
       under_of st (facts_of st n) i f j (first_of_and _ _ p) λ k m s h l.
       over_of st (facts_of st n) i f j (second_of_and _ _ p) λ k' m' s' h' l'.
       let child = keeps s in
-      let above = true_fact ordered k i h in
+      let above = true_fact Kind.Ordered k i h in
       record {
         present = above.paths (f ∷ []) child.present;
         subtree = both_below
-            (related_through ordered _ (v m') (v j)
-            (below_child (keeps s') (true_fact ordered i k' h')) (true_fact ordered m' j l'))
-            (related_through ordered (v j) (v m) _ (true_fact ordered j m l) (child_below child above));
+            (related_through Kind.Ordered _ (v m') (v j)
+            (below_child (keeps s') (true_fact Kind.Ordered i k' h')) (true_fact Kind.Ordered m' j l'))
+            (related_through Kind.Ordered (v j) (v m) _ (true_fact Kind.Ordered j m l) (child_below child above));
       }
 
   -- what is supported is true
   pub true_supported : (q : Statement) → supported st (facts_of st n) q ≡ true → Satisfies v q
   unfolding supported
-  true_supported (Statement.Ordering i j) p = true_fact ordered i.0 j.0 p
-  true_supported (Statement.Compatibility i j) p = true_fact compatible i.0 j.0 p
+  true_supported (Statement.Ordering i j) p = true_fact Kind.Ordered i.0 j.0 p
+  true_supported (Statement.Compatibility i j) p = true_fact Kind.Compatible i.0 j.0 p
   true_supported (Statement.Selection i f j) p = true_selection i.0 f.0 j.0 p
   true_supported (Statement.Labelling i a) p =
       label_under st (facts_of st n) i.0 a.0 p λ k s h.
-      (true_fact ordered k i.0 h).labels [] a.0 (keeps s)
+      (true_fact Kind.Ordered k i.0 h).labels [] a.0 (keeps s)

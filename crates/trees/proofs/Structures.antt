@@ -6,7 +6,8 @@ use mathlib.Core.Path.{◌≡◌, sym, ap, subst}
 use Rattle.fields.specs.Fields.{variable, feature, label}
 use Rattle.items.specs.declared.items.Statement.{Statement}
 use Rattle.items.specs.Statements.{AllName}
-use Rattle.rules.specs.Facts.{Kind, ordered, compatible, Relation, Holds, Closed}
+use Rattle.rules.specs.declared.kinds.Kind.{Kind}
+use Rattle.rules.specs.Facts.{Relation, Holds, Closed}
 use Rattle.rules.specs.Stated.{selection, labelling, Stated}
 
 -- the facts r are closed over n variables and F5 applies nowhere; every number is related to itself, and one that is no
@@ -18,14 +19,14 @@ pub record Laws (n : ℕ) (st : List Statement) (r : Relation) : Type 0 where
   pub apart : (kind : Kind) (i j : ℕ) → Holds r kind i j → (i ≡ j) ⊎ ((i < n) × (j < n))
   -- F5
   pub labels_agree : (i j a b : ℕ)
-      → Holds r compatible i j → Stated st (labelling i a) → Stated st (labelling j b) → a ≡ b
+      → Holds r Kind.Compatible i j → Stated st (labelling i a) → Stated st (labelling j b) → a ≡ b
 
 -- the rules, their variables left to be found
 module _ {n : ℕ} {st : List Statement} {r : Relation} (L : Laws n st r) where
-  pub through : (kind : Kind) {i j k : ℕ} → Holds r ordered i j → Holds r kind j k → Holds r kind i k
+  pub through : (kind : Kind) {i j k : ℕ} → Holds r Kind.Ordered i j → Holds r kind j k → Holds r kind i k
   through kind {i} {j} {k} p q = L.closed.through kind i j k p q
 
-  pub symmetric : {i j : ℕ} → Holds r compatible i j → Holds r compatible j i
+  pub symmetric : {i j : ℕ} → Holds r Kind.Compatible i j → Holds r Kind.Compatible j i
   symmetric {i} {j} p = L.closed.symmetric i j p
 
   pub descends : (kind : Kind) {f i i' j j' : ℕ}
@@ -33,7 +34,7 @@ module _ {n : ℕ} {st : List Statement} {r : Relation} (L : Laws n st r) where
   descends kind {f} {i} {i'} {j} {j'} s p s' = L.closed.descends kind f i i' j j' s p s'
 
   pub one_label : {i j a b : ℕ}
-      → Holds r compatible i j → Stated st (labelling i a) → Stated st (labelling j b) → a ≡ b
+      → Holds r Kind.Compatible i j → Stated st (labelling i a) → Stated st (labelling j b) → a ≡ b
   one_label {i} {j} {a} {b} p s s' = L.labels_agree i j a b p s s'
 
 -- a statement has one kind
@@ -79,9 +80,11 @@ module _ {n : ℕ} {st : List Statement} {r : Relation} (L : Laws n st r) where
   right_variable kind {i} {j} p h = ⊎_elim (λ e. subst (λ x. x < n) e h) (λ b. b.1) (L.apart kind i j p)
 
   -- F3.2 on the right, and on both sides
-  pub compatible_right : {i j k : ℕ} → Holds r compatible i j → Holds r ordered k j → Holds r compatible i k
-  compatible_right h p = symmetric L (through L compatible p (symmetric L h))
+  pub compatible_right : {i j k : ℕ} → Holds r Kind.Compatible i j → Holds r Kind.Ordered k j
+      → Holds r Kind.Compatible i k
+  compatible_right h p = symmetric L (through L Kind.Compatible p (symmetric L h))
 
-  pub compatible_below : {i j k l : ℕ} → Holds r ordered k i → Holds r compatible i j → Holds r ordered l j
-      → Holds r compatible k l
-  compatible_below p h q = compatible_right (through L compatible p h) q
+  pub compatible_below : {i j k l : ℕ} → Holds r Kind.Ordered k i → Holds r Kind.Compatible i j
+      → Holds r Kind.Ordered l j
+      → Holds r Kind.Compatible k l
+  compatible_below p h q = compatible_right (through L Kind.Compatible p h) q

@@ -1,36 +1,56 @@
 -- Each kind of question by its own search.
-use Rattle.std.proofs.Common.{sym, ◌∙◌}
-use Rattle.rules.specs.Support.{supported}
-use Rattle.answers.proofs.Shown.{under_first, not_under}
+use Rattle.std.proofs.Common.{sym, ◌∙◌, rules, tests}
+use Rattle.std.proofs.lemmas.Iterator.{YieldsList-from_slice}
+use Rattle.std.proofs.lemmas.Iterator.Adapters.{serves_from_places}
+use Rattle.std.proofs.lemmas.Iterator.Search.{any_from_yields_List}
+use Rattle.rules.specs.Tables.{facts}
+use Rattle.answers.specs.Supports.{is_under, is_over}
+use Rattle.answers.proofs.Shown.{lawful_at, by_ordering, by_compatibility, by_both, by_none_under, by_label}
 use Rattle.answers.proofs.support.supports.Goals as goal
 
 pub returns-in-Ordering : goal.returns-in-Ordering
-unfolding supported
-returns-in-Ordering c = record { told = λ st selections labels. rw c.in-Ordering.is c.has_fact.ensures }
+returns-in-Ordering c = by_ordering c.index.ensures c.index-in-Ordering.ensures c.in-Ordering.is c.has_fact.ensures
 
 pub returns-in-Compatibility : goal.returns-in-Compatibility
-unfolding supported
 returns-in-Compatibility c =
-    record { told = λ st selections labels. rw c.in-Compatibility.is c.has_fact-in-Compatibility.ensures }
+    by_compatibility c.index-in-Compatibility.ensures c.index-in-Compatibility-2.ensures c.in-Compatibility.is
+    c.has_fact-in-Compatibility.ensures
 
-pub returns-then-shows_child : goal.returns-then-shows_child
-returns-then-shows_child c =
-    record {
-      told = λ st selections labels.
-          rw c.in-Selection.is (under_first st _ _ _ _
-          (sym (c.shows_child.ensures.told st selections) ∙ c.if-shows_child.true)
-          (c.shows_child-then-shows_child.ensures.told st selections));
-    }
+-- each selection of the list is lawful
+pub any-requires-clause-callable : goal.any-requires-clause-callable
+any-requires-clause-callable c =
+    serves_from_places (YieldsList-from_slice c.args.list.now (cc)) (λ x q k. search rules) λ x k h e.
+    let lawful = lawful_at c.requires.selections x.now k h e in
+    search rules
 
-pub returns-else-shows_child : goal.returns-else-shows_child
-returns-else-shows_child c =
-    record {
-      told = λ st selections labels.
-          rw c.in-Selection.is (not_under st _ _ _ _
-          (sym (c.shows_child.ensures.told st selections) ∙ c.if-shows_child.false));
-    }
+pub any-requires-then-any-clause-callable : goal.any-requires-then-any-clause-callable
+any-requires-then-any-clause-callable c =
+    serves_from_places (YieldsList-from_slice c.args.list.now (cc)) (λ x q k. search rules) λ x k h e.
+    let lawful = lawful_at c.requires.selections x.now k h e in
+    search rules
+
+pub returns-then-any : goal.returns-then-any
+returns-then-any c =
+    let list = c.args.list.now in
+    let r = facts c.args.table.now.n c.args.table.now.cells.now in
+    let under = is_under r c.index-subject.result c.in-Selection.f.0 c.index-child.result in
+    let over = is_over r c.index-subject.result c.in-Selection.f.0 c.index-child.result in
+    by_both c.index-subject.ensures c.index-child.ensures c.requires.selections c.in-Selection.is
+    (sym (any_from_yields_List under _ _ c.any.result c.any.ensures.ran (YieldsList-from_slice list (cc))
+    (λ x b q k. search (rules, tests)))
+    ∙ c.if-any.true)
+    (any_from_yields_List over _ _ c.any-then-any.result c.any-then-any.ensures.ran (YieldsList-from_slice list (cc))
+    (λ x b q k. search (rules, tests)))
+
+pub returns-else-any : goal.returns-else-any
+returns-else-any c =
+    let list = c.args.list.now in
+    let r = facts c.args.table.now.n c.args.table.now.cells.now in
+    let under = is_under r c.index-subject.result c.in-Selection.f.0 c.index-child.result in
+    by_none_under c.index-subject.ensures c.index-child.ensures c.requires.selections c.in-Selection.is
+    (any_from_yields_List under _ _ c.any.result c.any.ensures.ran (YieldsList-from_slice list (cc))
+    (λ x b q k. search (rules, tests)))
+    c.if-any.false
 
 pub returns-in-Labelling : goal.returns-in-Labelling
-unfolding supported
-returns-in-Labelling c =
-    record { told = λ st selections labels. rw c.in-Labelling.is (c.shows_label.ensures.told st labels) }
+returns-in-Labelling c = by_label c.index-in-Labelling.ensures c.in-Labelling.is c.has_label.ensures

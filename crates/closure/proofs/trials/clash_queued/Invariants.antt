@@ -1,9 +1,7 @@
-use Rattle.closure.proofs.Searches.{Seen}
+-- With each turn one entry more does not clash.
+use Rattle.closure.proofs.Searches.{Clear}
 use Rattle.closure.proofs.trials.clash_queued.Given as goal
 
--- none of the entries from here on clashes
-abbrev pub invariant-loop-left : goal.invariant-loop-left
-invariant-loop-left l = Seen l.n l.t l.counts l.labels l.queue l.from l.tail l.left
-
-abbrev pub decreases-loop-left : goal.decreases-loop-left
-decreases-loop-left l = l.left
+abbrev pub invariant-loop-k : goal.invariant-loop-k
+invariant-loop-k l =
+    Clear l.growth.n l.growth.cells.now l.labels.spreads l.growth.queue.now.items l.fn.from l.k

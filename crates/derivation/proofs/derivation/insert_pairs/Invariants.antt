@@ -1,16 +1,13 @@
-use Rattle.std.proofs.Common.{ℕ, length, ◌-◌, ◌≤◌, get_or}
-use Rattle.table.specs.Queue.{state}
-use Rattle.facts.specs.Additions.{Said, Among, Steps}
+-- With each turn one more pair is inserted.
+use Rattle.facts.specs.Additions.{Among, Steps}
+use Rattle.facts.specs.Growth.{state_of, IsSame}
+use Rattle.derivation.specs.Stands.{SaidBy, pair_at}
 use Rattle.derivation.proofs.derivation.insert_pairs.Given as goal
 
--- the pairs before k are inserted
-abbrev pub invariant-loop-k : goal.invariant-loop-k
-invariant-loop-k l =
-    let pair = λ (x : ℕ). Said (get_or l.cells x 0) (get_or l.lefts x 0) (get_or l.rights x 0) in
+abbrev pub invariant-loop-pair : goal.invariant-loop-pair
+invariant-loop-pair l =
     record {
-      inside : l.k ≤ length l.cells;
-      steps : Steps l.n (Among 0 l.k pair) (state l.fn.t l.fn.queue l.tail) (state l.t l.queue l.next);
+      steps : Steps l.fn.growth.n (Among 0 l.pair-index (λ k. SaidBy (pair_at l.pairs k))) (state_of l.fn.growth)
+          (state_of l.growth);
+      same : IsSame l.fn.growth l.growth;
     }
-
-abbrev pub decreases-loop-k : goal.decreases-loop-k
-decreases-loop-k l = length l.cells - l.k

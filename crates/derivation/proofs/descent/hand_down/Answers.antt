@@ -1,14 +1,17 @@
 -- One row more is handed down, and rows that have nothing to tell are passed.
-use Rattle.derivation.proofs.Descending.{handed_first, handed_next, handed_all}
+use Rattle.facts.proofs.Growing.{same_then}
+use Rattle.derivation.proofs.Descending.{handed_next, handed_all}
 use Rattle.derivation.proofs.descent.hand_down.Goals as goal
-
-pub loop-at-init : goal.loop-at-init
-loop-at-init c = handed_first c.requires _ c.seek_row-at.ensures
 
 pub loop-at-preserved : goal.loop-at-preserved
 loop-at-preserved c =
-    handed_next c.requires c.loop-at.invariant c.loop-at-test.true _ c.wide.ensures c.tell_all-next.ensures _
-    c.seek_row-at-in-loop-at.ensures
+    let so_far = c.loop-at.invariant in
+    record {
+      handed =
+          handed_next c.requires so_far.handed _ _ so_far.same.n c.in-Some.ensures c.index.ensures
+          c.tell_all.ensures.steps;
+      same = same_then so_far.same c.tell_all.ensures.same;
+    }
 
-pub returns : goal.returns
-returns c = handed_all c.loop-at.invariant c.loop-at-test.false
+pub returns-clause-steps : goal.returns-clause-steps
+returns-clause-steps c = handed_all c.requires c.loop-at.invariant.handed c.loop-at.invariant.same.n c.in_default.ensures

@@ -1,5 +1,6 @@
-use Rattle.std.proofs.Common.{◌-◌, ◌≤◌}
-use Rattle.table.specs.Queue.{state, queue_room}
+use Rattle.std.proofs.Common.{◌-◌, ◌≤◌, length}
+use Rattle.table.specs.Queue.{queue_room}
+use Rattle.facts.specs.Growth.{state_of, IsSame}
 use Rattle.selections.specs.Groups.{Grouped}
 use Rattle.derivation.proofs.Runs.{Halfway}
 use Rattle.derivation.proofs.descent.run.Given as goal
@@ -7,10 +8,10 @@ use Rattle.derivation.proofs.descent.run.Given as goal
 -- the entries before head are visited, and the queue is within its room
 abbrev pub invariant-loop-head : goal.invariant-loop-head
 invariant-loop-head l =
-    let selected = Grouped l.starts l.ends l.features l.children in
     record {
-      half : Halfway l.n selected (state l.fn.t l.fn.queue l.tail) (state l.t l.queue l.next) l.head;
-      room : l.next ≤ queue_room;
+      half : Halfway l.fn.growth.n (Grouped l.groups) (state_of l.fn.growth) (state_of l.growth) l.head;
+      same : IsSame l.fn.growth l.growth;
+      room : length l.growth.queue.now.items ≤ queue_room;
     }
 
 abbrev pub decreases-loop-head : goal.decreases-loop-head

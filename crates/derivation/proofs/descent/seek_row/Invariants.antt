@@ -1,10 +1,7 @@
-use Rattle.std.proofs.Common.{◌-◌}
-use Rattle.derivation.specs.Descent.{NextRow}
+use Rattle.derivation.specs.Descent.{NoRowNew}
 use Rattle.derivation.proofs.descent.seek_row.Given as goal
 
 -- no row before this one has anything to tell
 abbrev pub invariant-loop-at : goal.invariant-loop-at
-invariant-loop-at l = NextRow l.n l.t l.features l.children l.w l.first l.last l.from l.end l.at
-
-abbrev pub decreases-loop-at : goal.decreases-loop-at
-decreases-loop-at l = l.end - l.at
+invariant-loop-at l =
+    NoRowNew l.growth.n l.growth.cells.now l.groups l.w l.fn.places.start l.fn.places.end l.fn.rows.start l.at

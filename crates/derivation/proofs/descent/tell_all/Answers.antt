@@ -1,14 +1,17 @@
 -- One child more is told of, and places that are not new are passed.
-use Rattle.derivation.proofs.Descending.{told_first, told_next, told_all}
+use Rattle.facts.proofs.Growing.{same_then}
+use Rattle.derivation.proofs.Descending.{told_next, told_all}
 use Rattle.derivation.proofs.descent.tell_all.Goals as goal
-
-pub loop-at-init : goal.loop-at-init
-loop-at-init c = told_first c.requires _ _ c.seek-at.ensures
 
 pub loop-at-preserved : goal.loop-at-preserved
 loop-at-preserved c =
-    told_next c.requires c.loop-at.invariant c.loop-at-test.true _ c.wide.ensures c.insert-next.ensures _
-    c.seek-at-in-loop-at.ensures
+    let so_far = c.loop-at.invariant in
+    record {
+      told =
+          told_next c.requires _ so_far.told _ _ so_far.same.n c.in-Some.ensures c.index.ensures c.insert.ensures.steps;
+      same = same_then so_far.same c.insert.ensures.same;
+    }
 
-pub returns : goal.returns
-returns c = told_all c.loop-at.invariant c.loop-at-test.false
+pub returns-clause-steps : goal.returns-clause-steps
+returns-clause-steps c =
+    told_all c.requires _ c.loop-at.invariant.told c.loop-at.invariant.same.n c.in_default.ensures

@@ -1,13 +1,15 @@
-use Rattle.std.proofs.Common.{◌-◌, get_or}
-use Rattle.table.specs.Queue.{state}
+use Rattle.std.proofs.Common.{◌-◌}
+use Rattle.facts.specs.Growth.{state_of, IsSame}
 use Rattle.derivation.proofs.Descending.{ToldUpto}
 use Rattle.derivation.proofs.descent.tell_all.Given as goal
 
--- the children at f before this place are told of, and the place is one of them
+-- the children at f before this place are told of
 abbrev pub invariant-loop-at : goal.invariant-loop-at
 invariant-loop-at l =
-    ToldUpto l.n l.starts l.ends l.features l.children l.w l.f l.i l.v (state l.fn.t l.fn.queue l.tail)
-    (state l.t l.queue l.next) l.at
+    record {
+      told : ToldUpto l.fn.growth.n l.groups l.w l.f.0 l.i l.v (state_of l.fn.growth) (state_of l.growth) l.from;
+      same : IsSame l.fn.growth l.growth;
+    }
 
 abbrev pub decreases-loop-at : goal.decreases-loop-at
-decreases-loop-at l = get_or l.ends l.v 0 - l.at
+decreases-loop-at l = l.group.end - l.from

@@ -1,25 +1,24 @@
 -- One question after another has its reply.
-use Rattle.std.proofs.Common.{sym}
-use Rattle.replies.proofs.Answered.{answers_start, question_named, none_refused, answers_end}
-use Rattle.replies.proofs.Going.{going_start, going_next}
+use Rattle.std.proofs.Common.{sym, arith}
+use Rattle.replies.proofs.Answered.{answers_end}
+use Rattle.replies.proofs.Going.{going_start, question_asks, going_refused, going_next}
 use Rattle.replies.proofs.sheets.reply_all.Goals as goal
 
-pub loop-left-init : goal.loop-left-init
-loop-left-init c = going_start (answers_start _ _ _ _ c.requires.asked) c.requires.replying c.requires.held
+pub loop-place-init : goal.loop-place-init
+loop-place-init c = going_start _ _ _ _ _ c.requires.asked
 
-pub reply-answer-requires-clause-names : goal.reply-answer-requires-clause-names
-reply-answer-requires-clause-names c =
-    question_named c.loop-left.invariant.answers c.loop-left-test.true (sym c.in-Asks.ensures)
+pub reply-requires-clause-names : goal.reply-requires-clause-names
+reply-requires-clause-names c =
+    question_asks c.loop-place.invariant (omega arith) c.requires.sizes (sym c.in-Ok.ensures)
 
-pub loop-left-preserved : goal.loop-left-preserved
-loop-left-preserved c =
-    let r = c.reply-answer.ensures in
-    going_next c.loop-left.invariant c.loop-left-test.true (sym c.in-Asks.ensures) r.told c.number.ensures
-    r.copied r.restored
+pub loop-place-preserved : goal.loop-place-preserved
+loop-place-preserved c =
+    going_next c.loop-place.invariant (omega arith) c.requires.sizes c.requires.held (sym c.in-Ok.ensures)
+    c.reply.ensures.told c.from.ensures c.reply.ensures.restored
 
-pub returns-in-Refused-clause-written : goal.returns-in-Refused-clause-written
-returns-in-Refused-clause-written c =
-    absurd (none_refused c.loop-left.invariant.answers c.loop-left-test.true (sym c.in-Refused.ensures))
+pub returns-in_default-clause-written : goal.returns-in_default-clause-written
+returns-in_default-clause-written c =
+    absurd (going_refused c.loop-place.invariant (omega arith) (sym c.in_default.ensures))
 
 pub returns-clause-written : goal.returns-clause-written
-returns-clause-written c = answers_end c.loop-left.invariant.answers c.loop-left-test.false
+returns-clause-written c = answers_end c.loop-place.invariant.answers (omega arith)

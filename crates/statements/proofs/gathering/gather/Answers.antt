@@ -1,22 +1,27 @@
 -- One record after another is put into the lists.
-use Rattle.std.proofs.Common.{refl, sym}
+use Rattle.std.proofs.Common.{◌-◌, ◌≡◌, sym, arith}
+use Rattle.items.proofs.Runs.{fewer}
 use Rattle.statements.proofs.Records.{gathers_start, gathers_put, gathers_next, none_refused, gathers_end}
 use Rattle.statements.proofs.gathering.gather.Goals as goal
 
-pub loop-left-init : goal.loop-left-init
-loop-left-init c = gathers_start _ _ _ refl refl c.requires
+pub loop-init : goal.loop-init
+loop-init c =
+    let made = c.empty-lists.ensures in
+    let none_read : c.args.accepted.header.records - 0 ≡ c.args.accepted.header.records = omega arith in
+    rw none_read (gathers_start _ _ c.empty-lists.result made.pairs made.selections made.labels c.requires)
 
-pub put_record-sizes-requires : goal.put_record-sizes-requires
-put_record-sizes-requires c =
-    gathers_put c.loop-left.invariant c.loop-left-test.true (sym c.in-Is.ensures)
+pub put_record-requires : goal.put_record-requires
+put_record-requires c =
+    gathers_put c.loop.invariant (omega (arith, c.loop-test.true)) (sym c.in-Ok.ensures)
 
-pub loop-left-preserved : goal.loop-left-preserved
-loop-left-preserved c =
-    gathers_next c.loop-left.invariant c.loop-left-test.true (sym c.in-Is.ensures) c.put_record-sizes.ensures
+pub loop-preserved : goal.loop-preserved
+loop-preserved c =
+    rw (fewer c.args.accepted.header.records c.loop.counter)
+    (gathers_next c.loop.invariant (omega (arith, c.loop-test.true)) (sym c.in-Ok.ensures) c.put_record.ensures)
 
-pub returns-in-Refused : goal.returns-in-Refused
-returns-in-Refused c =
-    absurd (none_refused c.loop-left.invariant c.loop-left-test.true (sym c.in-Refused.ensures))
+pub returns-in_default : goal.returns-in_default
+returns-in_default c =
+    absurd (none_refused c.loop.invariant (omega (arith, c.loop-test.true)) (sym c.in_default.ensures))
 
 pub returns : goal.returns
-returns c = gathers_end c.loop-left.invariant c.loop-left-test.false
+returns c = gathers_end c.loop.invariant (omega (arith, c.loop-test.false))

@@ -1,0 +1,111 @@
+// A table that grows, and the queue of its changed cells: each cell that changes is queued.
+ghost use Rattle.std.specs.Prelude.{length, replicate, ◌≡◌};
+ghost use Rattle.rules.specs.Tables.{cell_at};
+ghost use Rattle.table.specs.Cells.{Cell};
+ghost use Rattle.facts.specs.Additions.{Said, Added};
+ghost use Rattle.facts.specs.Growth.{state_of, with_table, IsSame};
+ghost use Rattle.facts.specs.Insertion.{Taking, TakingRow, TakingRows, Sides, RowTaken, RowsTaken};
+
+use fields::MOST_VARIABLES;
+use rules::Kind;
+use table::{Queue, Table, push, says, store};
+
+// The bytes of a table of n variables, and the pairs whose cells changed.
+#[derive(Drop)]
+pub struct Growth<'a> {
+    pub cells: &'a mut [u8],
+    pub n: usize,
+    pub queue: &'a mut Queue,
+}
+
+impl Growth<'_> {
+    // The table as it is read.
+    pub fn table(&self) -> Table<'_>
+        ensures cells { result.cells.now ≡ self.now.cells.now }
+        ensures n { result.n ≡ self.now.n }
+    {
+        Table {
+            cells: self.cells,
+            n: self.n,
+        }
+    }
+
+    // The cell of i and j.
+    pub fn look(&self, i: usize, j: usize) -> u8
+        requires { Cell self.now.n self.now.cells.now i j }
+        ensures { result ≡ cell_at self.now.n self.now.cells.now i j }
+    {
+        self.table().look(i, j)
+    }
+
+    // No facts at all.
+    pub fn clear(&mut self)
+        ensures { self.new ≡ with_table self.old (replicate (length self.old.cells.now) 0) }
+    {
+        self.cells.fill(0);
+    }
+
+    // The facts of another table of the same size.
+    pub fn copy_from(&mut self, other: &Table)
+        requires { length other.now.cells.now ≡ length self.old.cells.now }
+        ensures { self.new ≡ with_table self.old other.now.cells.now }
+    {
+        self.cells.copy_from_slice(other.cells);
+    }
+
+    // Adds what w says to the cell of x and y.
+    #[tactic(auto, using(crate::proofs::Takes::has_it_all))]
+    pub(crate) fn take_cell(&mut self, w: u8, x: usize, y: usize)
+        requires { Taking self.old.n (state_of self.old) w x y }
+        ensures added { Added self.old.n (Said w x y) (state_of self.old) (state_of self.new) }
+        ensures same { IsSame self.old self.new }
+    {
+        let old = self.look(x, y);
+        let new = old | w;
+        if new != old {
+            store(self.cells, self.n, x, y, new);
+            push(self.queue, x, y);
+        }
+    }
+
+    // Adds w at x and y, and ~ on both sides.
+    #[tactic(auto, using(table::proofs::Saying::by_number))]
+    fn take_pair(&mut self, w: u8, x: usize, y: usize)
+        requires { Taking self.old.n (state_of self.old) w x y }
+        ensures added { Added self.old.n (Sides w x y) (state_of self.old) (state_of self.new) }
+        ensures same { IsSame self.old self.new }
+    {
+        if w != 0 {
+            self.take_cell(w, x, y);
+        }
+        if says(Kind::Compatible, w) {
+            self.take_cell(2, y, x);
+        }
+    }
+
+    // x takes a row.
+    fn take_row(&mut self, x: usize, row: &[u8; MOST_VARIABLES])
+        requires { TakingRow self.old.n (state_of self.old) row.now x }
+        ensures added { Added self.old.n (RowTaken self.old.n row.now x)
+            (state_of self.old) (state_of self.new) }
+        ensures same { IsSame self.old self.new }
+    {
+        for y in 0..self.n {
+            self.take_pair(row[y], x, y);
+        }
+    }
+
+    // Each variable that the column marks takes the row.
+    pub(crate) fn take_rows(&mut self, column: &[bool; MOST_VARIABLES], row: &[u8; MOST_VARIABLES])
+        requires { TakingRows self.old.n (state_of self.old) row.now }
+        ensures added { Added self.old.n (RowsTaken self.old.n column.now row.now)
+            (state_of self.old) (state_of self.new) }
+        ensures same { IsSame self.old self.new }
+    {
+        for x in 0..self.n {
+            if column[x] {
+                self.take_row(x, row);
+            }
+        }
+    }
+}
