@@ -18,6 +18,7 @@ fn clash_in_row(table: &Table<'_>, labels: &Labels, i: usize) -> Option<Clash>
     if !labels.spreads[i].has_any() {
         return None;
     }
+    // columns are narrowed by `as`: they are below 128
     for j in 0..table.n {
         if has_fact(table, Kind::Compatible, i, j) && labels.differ(i, j) {
             return Some(Clash {

@@ -26,7 +26,7 @@ fn is_under(table: &Table<'_>, selection: &Selection, i: usize, f: Feature, j: u
         && has_fact(table, Kind::Ordered, j, selection.child.index())
 }
 
-// Whether it is some k[f]m with i ≤ k and m ≤ j.
+// Whether it is some k[f]m with i ≤ k and m ≤ j. The other side: one function of both would be told the side by a flag.
 #[tactic(auto, unfolding(fields::specs::Tests::same))]
 fn is_over(table: &Table<'_>, selection: &Selection, i: usize, f: Feature, j: usize) -> bool
     requires lent { Lent table.now.n table.now.cells.now × ((i < table.now.n) × (j < table.now.n)) }

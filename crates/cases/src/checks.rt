@@ -3,7 +3,8 @@ use engine::Outcome;
 use std::alloc::Global;
 use std::io::{Result, Write};
 
-// The word of an outcome, and its two numbers.
+// The word of an outcome, and its two numbers. No Display: treecheck's lines are the outcome's text, and this is the text
+// of the cases alone.
 fn told(outcome: Outcome) -> (&'static str, u16, u16) {
     match outcome {
         Outcome::Consistent(orderings, compatibilities) => {

@@ -9,7 +9,7 @@ mod readings;
 use std::alloc::Global;
 use std::io::{self, BufWriter, Write};
 
-// A number with one digit more, kept small.
+// A number with one digit more, kept small. No `parse`: a case may hold any digits, and bytes are made of them by 256.
 fn with_digit(value: u32, digit: u8) -> u32 {
     value % 1000 * 10 + u32::from(digit) % 16
 }

@@ -5,7 +5,7 @@ ghost use Rattle.sheet.specs.Sheets.{read_sheet, sheet_of};
 ghost use Rattle.promise.specs.Promise.{IsAccepted};
 ghost use Rattle.client.specs.Dropping.{MayDrop};
 
-use engine::{LARGEST_TABLE, MOST_REPLIES, Outcome, check, read_header};
+use engine::{LARGEST_TABLE, MOST_REPLIES, Outcome, Reply, check, read_header};
 
 // Whether there is a question of this number, answered always.
 fn is_answered_always(sheet: &[u8], replies: &[u8], question: u32) -> bool
@@ -13,6 +13,7 @@ fn is_answered_always(sheet: &[u8], replies: &[u8], question: u32) -> bool
     ensures { IsAccepted (read_sheet sheet.now)
         → IsTrue result ↔ ((question < length (sheet_of sheet.now).asked) × (get_or replies.now question 0 ≡ 0)) }
 {
+    // by `as`: a usize is no `From` of a u32
     let k = question as usize;
     let Ok(header) = read_header(sheet) else {
         return false;
@@ -23,7 +24,7 @@ fn is_answered_always(sheet: &[u8], replies: &[u8], question: u32) -> bool
     if replies.len() <= k {
         return false;
     }
-    replies[k] == 0
+    replies[k] == u8::from(Reply::Always)
 }
 
 // Whether the test of what a question asks may be left out: the bytes are a sheet that some assignment meets, it has a

@@ -1,4 +1,5 @@
-// Trials: whether one statement more would clash.
+// Trials: whether one statement more would clash. The closed table, the growth and the groups are three parameters: what
+// becomes of lent bytes is known for the fields of one struct, not for those of a struct within it.
 ghost use Rattle.std.specs.Prelude.{◌*◌, ◌≡◌};
 ghost use Rattle.facts.specs.Additions.{Said};
 ghost use Rattle.facts.specs.Growth.{IsSame};

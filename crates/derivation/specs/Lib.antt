@@ -1,4 +1,4 @@
--- Descent, the settled table, and when statements stand in the lent arrays.
+-- Descent, the settled table, and when statements stand in the list of pairs.
 pub mod Descent
 pub mod Settled
 pub mod Stands

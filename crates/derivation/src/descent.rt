@@ -1,4 +1,5 @@
-// Descent: what holds of two variables is handed down to their children at common features, by F2 and F4.
+// Descent: what holds of two variables is handed down to their children at common features, by F2 and F4. The growth
+// changes and the groups are read, so they are two parameters; the others are other ones at each call.
 ghost use Rattle.std.specs.Prelude.{MatchOption, ◌≡◌};
 ghost use Rattle.facts.specs.Additions.{Steps};
 ghost use Rattle.facts.specs.Growth.{state_of, IsSame};
@@ -49,7 +50,7 @@ fn seek(
     None
 }
 
-// Tells w of i and each child of v at f.
+// Tells w of i and each child of v at f. No `for`: the table that is searched changes with each place that is found.
 fn tell_all(growth: &mut Growth, groups: &Groups, w: u8, f: Feature, i: usize, v: usize)
     requires { Handing growth.old.n (state_of growth.old) groups.now w i v }
     ensures steps { Steps growth.old.n (UnderAll groups.now w f.0 i v) (state_of growth.old) (state_of growth.new) }
@@ -94,7 +95,7 @@ fn seek_row(
     None
 }
 
-// Hands w down from u and v.
+// Hands w down from u and v. No `for`: as in `tell_all`.
 fn hand_down(growth: &mut Growth, groups: &Groups, w: u8, u: usize, v: usize)
     requires { Handing growth.old.n (state_of growth.old) groups.now w u v }
     ensures steps { Steps growth.old.n (HandedDown groups.now w u v) (state_of growth.old) (state_of growth.new) }
@@ -126,7 +127,7 @@ fn visit(growth: &mut Growth, groups: &Groups, entry: Entry)
     }
 }
 
-// Visits the entries of the queue until there are no more.
+// Visits the entries of the queue until there are no more. No `for`: a visit queues further ones.
 pub fn run(growth: &mut Growth, groups: &Groups)
     requires { Starting growth.old.n (state_of growth.old) groups.now }
     ensures settled { Settled growth.old.n (Grouped groups.now) (state_of growth.old) (state_of growth.new) }

@@ -21,7 +21,7 @@ use sheet::{Accepted, Refusal};
 use statements::{Lists, gather};
 use table::{Queue, Table};
 
-// The outcome of a refusal.
+// The outcome of a refusal. Narrowed by `as`: no offset is beyond the longest sheet.
 fn refused(refusal: Refusal) -> Outcome
     requires { refusal.at ≤ longest }
     ensures { result ≡ of_refusal refusal }
@@ -113,7 +113,7 @@ fn check_accepted(
     requires { Accepting sheet.now accepted facts.old work.old replies.old }
     ensures { Filled (sheet_of sheet.now) work.old replies.old facts.new work.new replies.new result }
 {
-    let n = accepted.header.variables as usize;
+    let n = usize::from(accepted.header.variables);
     let lists = gather(sheet, accepted);
     let mut groups = Groups::empty();
     let mut queue = Queue::new();

@@ -7,7 +7,7 @@ mod exports;
 pub use checking::check;
 pub use exports::check_sheet;
 pub use outcomes::Outcome;
-pub use rules::Reply;
+pub use rules::{NoReply, Reply};
 pub use sheet::{
     Accepted, Cursor, Fault, Header, LARGEST_TABLE, LONGEST_SHEET, Label, MOST_REPLIES, Refusal,
     Variable, read_header, read_sheet, record_part,

@@ -17,7 +17,7 @@ pub struct Field<T> {
 // A field, or why the sheet is refused.
 pub type Read<T> = Result<Field<T>, Refusal>;
 
-// Whether the bit of this value stands in a map.
+// Whether the bit of this value stands in a map. Both are bytes: a map is a field of the format.
 #[tactic(auto, unfolding(crate::specs::Tests::has, crate::specs::Tests::same))]
 pub fn has_bit(value: u8, map: u8) -> bool
     ensures { result ≡ has value map }
@@ -33,7 +33,7 @@ pub fn has_bit(value: u8, map: u8) -> bool
 pub fn word_of(high: u8, low: u8) -> u16
     ensures { result ≡ word high low }
 {
-    high as u16 * 256 + low as u16
+    u16::from(high) * 256 + u16::from(low)
 }
 
 // Refusal 1.

@@ -15,7 +15,7 @@ impl Variable {
     pub fn index(self) -> usize
         ensures { result ≡ self.0 }
     {
-        self.0 as usize
+        usize::from(self.0)
     }
 }
 

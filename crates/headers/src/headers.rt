@@ -55,7 +55,7 @@ impl Header {
     pub fn reply_count(self) -> usize
         ensures { result ≡ reply_count self }
     {
-        self.question_count() as usize
+        usize::from(self.question_count())
     }
 
     // How many bytes a fact table takes.
@@ -63,7 +63,7 @@ impl Header {
     pub fn table_size(self) -> usize
         ensures { result ≡ table_size self }
     {
-        let n = self.variables as usize;
+        let n = usize::from(self.variables);
         n * n
     }
 }
@@ -95,7 +95,7 @@ fn is_bad_variable_count(n: u8) -> bool
     if n == 0 {
         return true;
     }
-    MOST_VARIABLES < n as usize
+    MOST_VARIABLES < usize::from(n)
 }
 
 // The header's map, the first byte.
@@ -134,7 +134,7 @@ fn read_count(sheet: &[u8], from: Cursor) -> Read<u16>
     ensures { result ≡ count_field sheet.now from }
 {
     let count = read_word(sheet, from)?;
-    if MOST_ITEMS < count.value as usize {
+    if MOST_ITEMS < usize::from(count.value) {
         return Err(Refusal {
             fault: Fault::Count,
             at: from.at,
@@ -143,7 +143,7 @@ fn read_count(sheet: &[u8], from: Cursor) -> Read<u16>
     Ok(count)
 }
 
-// It is there only where its bit stands.
+// It is there only where its bit stands, which is a flag as of an item's fields.
 fn read_count_if(stands: bool, sheet: &[u8], from: Cursor) -> Read<Option<u16>>
     ensures { result ≡ count_if stands sheet.now from }
 {

@@ -135,7 +135,9 @@ fn read_label(sheet: &[u8], from: Cursor) -> Read<Label>
     })
 }
 
-// Each of them where its bit stands.
+// Each of them where its bit stands. Whether it does is a flag: it is read from the map, and no step but this depends
+// on it. The sheet, the variable count and the cursor are handed on one by one: a reading keeps two of them (crate sheet),
+// and the count is known behind the header alone.
 fn read_variable_if(stands: bool, sheet: &[u8], n: u8, from: Cursor) -> Read<Option<Variable>>
     ensures { result ≡ field_if stands (variable_field sheet.now n from) from }
 {
@@ -192,7 +194,8 @@ pub fn read_record(sheet: &[u8], n: u8, from: Cursor) -> Read<Item>
     read_item(Place::Record, sheet, n, from)
 }
 
-// The statement that each field makes with the subject, where it is there.
+// The statement that each field makes with the subject, where it is there. Alike but for the case that each makes: to
+// hand the case in would be longer than they are.
 impl Item {
     pub fn ordering(self) -> Option<Statement>
         ensures { result ≡ ordering_of self }

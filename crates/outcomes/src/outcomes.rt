@@ -14,12 +14,12 @@ pub enum Outcome {
     Refused(Fault, u16),
 }
 
-// Kind and two numbers as one.
+// Kind and two numbers as one: the number that C gets.
 #[tactic(auto, unfolding(crate::specs::Outcomes::pack))]
 fn pack(kind: u8, first: u16, second: u16) -> u64
     ensures { result ≡ pack kind first second }
 {
-    kind as u64 + (256 * (first as u64) + 16777216 * (second as u64))
+    u64::from(kind) + (256 * u64::from(first) + 16777216 * u64::from(second))
 }
 
 impl Outcome {
@@ -30,7 +30,7 @@ impl Outcome {
     {
         match self {
             Outcome::Consistent(orderings, compatibilities) => pack(0, orderings, compatibilities),
-            Outcome::Clash(i, j) => pack(1, i.0 as u16, j.0 as u16),
+            Outcome::Clash(i, j) => pack(1, u16::from(i.0), u16::from(j.0)),
             Outcome::Refused(fault, at) => pack(2, u16::from(u8::from(fault)), at),
         }
     }

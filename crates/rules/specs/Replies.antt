@@ -1,11 +1,12 @@
 -- Replies to questions, and the label stated for a variable.
-use Rattle.std.specs.Prelude.{ℕ, Bool, List, [], ◌∷◌, ◌++◌, map}
+use Rattle.std.specs.Prelude.{◌≡◌, ℕ, ◌<◌, Bool, List, [], ◌∷◌, ◌++◌, map, codes, Result, MatchResult}
 use Rattle.std.proofs.Math.Option.{Option}
 use Rattle.fields.specs.Tests.{same, pick}
 use Rattle.items.specs.declared.items.Statement.{Statement}
 use Rattle.items.specs.Questions.{Query, holds}
 use Rattle.sheet.specs.Sheets.{Sheet}
 use Rattle.rules.specs.declared.replies.Reply.{Reply}
+use Rattle.rules.specs.declared.replies.NoReply.{NoReply}
 use Rattle.rules.specs.Stated.{first_label}
 use Rattle.rules.specs.Derived.{facts_of}
 use Rattle.rules.specs.Clashes.{clashes}
@@ -43,6 +44,16 @@ abbrev pub reply_number : Reply → ℕ
 reply_number Reply.Always = 0
 reply_number Reply.Never = 1
 reply_number Reply.Open = 2
+
+-- the reply that a byte stands for, or that it stands for none
+abbrev pub IsReplyByte : ℕ → Result Reply NoReply → Type 0
+IsReplyByte byte r = MatchResult r (λ reply. reply_number reply ≡ byte) (λ none. (none.0 ≡ byte) × (2 < byte))
+
+-- the word of each reply
+abbrev pub reply_word : Reply → List ℕ
+reply_word Reply.Always = codes "always"
+reply_word Reply.Never = codes "never"
+reply_word Reply.Open = codes "open"
 
 -- the label stated for i, the first where there are more
 unfoldable pub stated_label : List Statement → ℕ → Option ℕ

@@ -9,5 +9,5 @@ mod verdicts;
 
 pub use clashes::Clash;
 pub use kinds::Kind;
-pub use replies::Reply;
+pub use replies::{NoReply, Reply};
 pub use verdicts::Verdict;

@@ -1,6 +1,8 @@
 // The answer to a question of a consistent sheet.
-ghost use Rattle.std.specs.Prelude.{◌≡◌};
-ghost use Rattle.rules.specs.Replies.{reply_number};
+ghost use Rattle.std.specs.Prelude.{◌≡◌, Some};
+ghost use Rattle.rules.specs.Replies.{reply_number, reply_word, IsReplyByte};
+
+use std::fmt;
 
 #[derive(Clone, Copy, Debug, PartialEq, Eq)]
 pub enum Reply {
@@ -8,6 +10,10 @@ pub enum Reply {
     Never,
     Open,
 }
+
+// A byte that stands for no reply.
+#[derive(Clone, Copy, Debug, PartialEq, Eq)]
+pub struct NoReply(pub u8);
 
 // Its number, as a reply byte.
 impl From<Reply> for u8 {
@@ -19,5 +25,34 @@ impl From<Reply> for u8 {
             Reply::Never => 1,
             Reply::Open => 2,
         }
+    }
+}
+
+// The reply of a reply byte.
+impl TryFrom<u8> for Reply {
+    type Error = NoReply;
+
+    ghost try_from_gives = { IsReplyByte };
+
+    fn try_from(byte: u8) -> Result<Reply, NoReply> {
+        match byte {
+            0 => Ok(Reply::Always),
+            1 => Ok(Reply::Never),
+            2 => Ok(Reply::Open),
+            _ => Err(NoReply(byte)),
+        }
+    }
+}
+
+// Its word, as it is printed.
+impl fmt::Display for Reply {
+    ghost output = { λ reply. Some (reply_word reply) };
+
+    fn fmt<W: fmt::Write>(&self, f: &mut fmt::Formatter<W>) -> fmt::Result {
+        f.write_str(match self {
+            Reply::Always => "always",
+            Reply::Never => "never",
+            Reply::Open => "open",
+        })
     }
 }

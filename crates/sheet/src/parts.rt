@@ -26,13 +26,13 @@ fn part_at<'a>(sheet: &'a [u8], header: Header, which: u16) -> &'a [u8]
 }
 
 // A record's own bytes, by its number: a part of the sheet. Empty for a refused sheet, or a number not below the
-// record count.
+// record count, so that `as` narrows no other.
 #[tactic(auto, unfolding(crate::specs::Parts::record_bytes, fields::specs::Tests::less, fields::specs::Tests::pick))]
 pub fn record_part<'a>(sheet: &'a [u8], which: u32) -> &'a [u8]
     ensures { result.now ≡ record_bytes sheet.now which }
 {
     match read_sheet(sheet) {
-        Ok(accepted) if which < accepted.header.records as u32 => part_at(
+        Ok(accepted) if which < u32::from(accepted.header.records) => part_at(
             sheet,
             accepted.header,
             which as u16,

@@ -1,5 +1,5 @@
-// A reading in progress: a sheet and the next offset together. Each function takes it apart and leaves the work to one
-// on the slice and the cursor.
+// A reading in progress: a sheet and the next offset together. Each function leaves the work to
+// one on the slice and the cursor.
 ghost use Rattle.std.specs.Prelude.{◌≡◌, drop};
 ghost use Rattle.fields.specs.declared.refusals.Place.{Place};
 ghost use Rattle.fields.specs.Fields.{byte_field, word_field};
@@ -69,7 +69,7 @@ impl<'a> Reader<'a> {
         self.pass(read_word(self.sheet, self.next))
     }
 
-    // The next record, over n variables.
+    // The next record, over n variables. Four names for users, each a line over `pass`.
     pub fn next_record<'s>(&'s mut self, n: u8) -> Read<Item>
         ensures { (result ≡ item_at Place.Record (bytes_of self.old) n self.old.next)
             × (self.new ≡ moved self.old (end_of result self.old.next)) }

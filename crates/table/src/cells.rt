@@ -1,4 +1,5 @@
-// What a cell says: 1 for ≤ plus 2 for ~.
+// What a cell says: 1 for ≤ plus 2 for ~. A cell, and what is said of a pair, is a byte and no enum, here and above: it is
+// a byte of the table that C lends, and can say both kinds.
 ghost use Rattle.std.specs.Prelude.{◌≡◌};
 ghost use Rattle.rules.specs.Tables.{says};
 ghost use Rattle.table.specs.Cells.{is_lacking};

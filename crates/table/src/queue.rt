@@ -19,7 +19,7 @@ pub struct Entry {
 // The pairs whose children are still to be looked at.
 pub type Queue = ArrayVec<Entry, ROOM>;
 
-// One more entry.
+// One more entry. Narrowed by `as`: that a variable is below 128 is required.
 pub fn push(queue: &mut Queue, x: usize, y: usize)
     requires room { length queue.old.items < queue_room }
     requires first { x < most_variables }

@@ -31,7 +31,8 @@ impl Table<'_> {
     }
 }
 
-// Another cell for i and j.
+// Another cell for i and j. On the bytes alone: a struct of the bytes to write would stand within a growth, and what
+// becomes of lent bytes is known for the fields of one struct.
 #[tactic(auto, unfolding(crate::specs::Cells::with_cell))]
 pub fn store(cells: &mut [u8], n: usize, i: usize, j: usize, cell: u8)
     requires { Cell n cells.old i j }

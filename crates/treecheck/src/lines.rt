@@ -1,5 +1,5 @@
 // The printed lines.
-use engine::{Outcome, Variable};
+use engine::{Outcome, Reply, Variable};
 use std::io::{Result, Write};
 
 // A variable, and the label that the sheet states for it.
@@ -17,19 +17,11 @@ fn variables(out: &mut impl Write, sheet: &[u8], n: u8) -> Result<()> {
     Ok(())
 }
 
-// The word of a reply byte.
-fn word(reply: u8) -> &'static str {
-    match reply {
-        0 => "always",
-        1 => "never",
-        _ => "open",
-    }
-}
-
-// The questions, each with the reply to it.
+// The questions, each with the reply to it; a byte that is no reply would tell nothing.
 fn questions(out: &mut impl Write, count: usize, replies: &[u8]) -> Result<()> {
-    for (k, reply) in (0..count).zip(replies) {
-        writeln!(out, "ask {k} {}", word(*reply))?;
+    for (k, byte) in (0..count).zip(replies) {
+        let reply = Reply::try_from(*byte).unwrap_or(Reply::Open);
+        writeln!(out, "ask {k} {reply}")?;
     }
     Ok(())
 }
