@@ -1,5 +1,5 @@
--- One field at a cursor: looked for whole, then judged. Each answer has a `then`: it reads on behind the field, or
--- passes the refusal on.
+-- One field at a cursor: looked for whole, then judged. `then_field` and `then_value` read on
+-- behind it, or pass the refusal on.
 use Rattle.std.specs.Prelude.{ℕ, ◌+◌, ◌*◌, Bool, true, false, List, get_or, Option, Some, None, Result, Ok, Err, ◌≡◌}
 use Rattle.fields.specs.declared.fields.Field.{Field}
 use Rattle.fields.specs.declared.numbers.Cursor.{Cursor}
