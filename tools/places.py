@@ -85,7 +85,7 @@ def places():
             for p in parameters:
                 if re.match(r'(alike|turned|stands|mark|value|w|cell|map|kind|count): (bool|u8)$', p):
                     found['1b flag or number parameter for a kind or a choice'].append(f'{where} {p}')
-                if re.match(r'(cells|lefts|rights|subjects|features|children|starts|ends|group_\w+|counts|labels): &', p):
+                if re.match(r'(cells|lefts|rights|subjects|features|children|starts|ends|group_\w+|counts|labels): &(?!(\'\w+ )?Labels)', p):
                     found['6a parameter or local that is one of parallel arrays'].append(f'{where} {p}')
                 if re.match(r'(tail|sizes|end|last|upto): ', p):
                     found['6b length or end beside a buffer'].append(f'{where} {p}')
@@ -111,8 +111,8 @@ def places():
             found['6a parameter or local that is one of parallel arrays'].append(f'{crate} {line}')
         if re.search(r'fn number\b', text):
             found['1c number told for a kind or a refusal'].append(crate)
-        for field in re.findall(r'^\s*pub (map|target|partner|feature|child|label): (?!Option)', text, flags=re.M):
-            if 'struct Item' in text:
+        for item in re.findall(r'struct Item \{[^}]*', text):
+            for field in re.findall(r'^\s*pub (map|target|partner|feature|child|label): (?!Option)', item, flags=re.M):
                 found['1d field or element that a flag or a count says whether to read'].append(f'{crate}::Item {field}')
     for names in alike.values():
         if len(names) > 1:

@@ -8,14 +8,16 @@ use Rattle.engine.proofs.checking.check_accepted.Goals as goal
 pub answer-requires-clause-answering : goal.answer-requires-clause-answering
 answer-requires-clause-answering c =
     let known = c.new-closed.ensures in
-    lists_answering c.requires c.gather-lists.ensures c.close.ensures.made (ap (λ (t : Table). t.n) known.table)
+    lists_answering c.requires c.gather-lists.ensures (rw c.from-n.ensures at c.close.ensures.made)
+    (ap (λ (t : Table). t.n) known.table ∙ c.from-n.ensures)
     (ap (λ (t : Table). t.cells.now) known.table) (known.selections ∙ c.as_slice.ensures.value)
     (ap (λ (x : Labels). x.spreads) known.labels) known.told (omega arith)
 
 pub returns : goal.returns
 returns c =
     let known = c.new-closed.ensures in
-    lists_filled c.requires c.gather-lists.ensures c.close.ensures.made (ap (λ (t : Table). t.n) known.table)
+    lists_filled c.requires c.gather-lists.ensures (rw c.from-n.ensures at c.close.ensures.made)
+    (ap (λ (t : Table). t.n) known.table ∙ c.from-n.ensures)
     (ap (λ (t : Table). t.cells.now) known.table) (known.selections ∙ c.as_slice.ensures.value)
     (ap (λ (x : Labels). x.spreads) known.labels) known.told c.from.ensures c.outcome_of.ensures
     c.answer.ensures.cleared c.answer.ensures.replied
