@@ -19,5 +19,5 @@ returns c =
     lists_filled c.requires c.gather-lists.ensures (rw c.from-n.ensures at c.close.ensures.made)
     (ap (λ (t : Table). t.n) known.table ∙ c.from-n.ensures)
     (ap (λ (t : Table). t.cells.now) known.table) (known.selections ∙ c.as_slice.ensures.value)
-    (ap (λ (x : Labels). x.spreads) known.labels) known.told c.from.ensures c.outcome_of.ensures
+    (ap (λ (x : Labels). x.spreads) known.labels) known.told c.from.ensures (rw c.from-n.ensures at c.outcome_of.ensures)
     c.answer.ensures.cleared c.answer.ensures.replied
