@@ -31,7 +31,7 @@ use Rattle.labels.proofs.Skip.{skip}
 use Rattle.answers.specs.Clashes.{ClashTold, LabelClashTold}
 use Rattle.answers.proofs.OneLabel.{no_label}
 use Rattle.derivation.proofs.Descending.{to_size}
-use Rattle.derivation.proofs.Stands.{kind_cell, statement_pairs, fact_said, said_fact, no_subject}
+use Rattle.derivation.proofs.Stands.{statement_pairs, fact_said, said_fact, no_subject}
 use Rattle.closure.specs.Trials.{Nothing, WithOne, before, last, Searched, Tried}
 use Rattle.closure.specs.Trials.{Standing, Consistent}
 use Rattle.closure.proofs.Tried.{States, still_clashes, tried_answer}

@@ -1,5 +1,5 @@
 // The derivation of stated pairs and selections, with the groups that questions are tried by.
-ghost use Rattle.std.specs.Prelude.{[], length, ◌≡◌};
+ghost use Rattle.std.specs.Prelude.{length, ◌≡◌};
 ghost use Rattle.facts.specs.Growth.{IsSame};
 ghost use Rattle.closure.specs.Making.{Lawful, Made};
 
@@ -12,7 +12,6 @@ use selections::{Groups, Selection};
 pub fn make(growth: &mut Growth, groups: &mut Groups, pairs: &[Pair], selections: &[Selection])
     requires { Lawful growth.old.n pairs.now selections.now (length growth.old.cells.now) }
     ensures made { Made growth.old.n pairs.now selections.now groups.new growth.new.cells.now }
-    ensures emptied { growth.new.queue.now.items ≡ [] }
     ensures same { IsSame growth.old growth.new }
 {
     groups.fill(growth.n, selections);

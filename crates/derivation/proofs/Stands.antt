@@ -13,7 +13,7 @@ use Rattle.rules.specs.Connectives.{◌or◌}
 use Rattle.rules.specs.Stated.{ordering, compatibility}
 use Rattle.rules.specs.declared.kinds.Kind.{Kind}
 use Rattle.rules.specs.Facts.{fact}
-use Rattle.rules.specs.Tables.{says}
+use Rattle.rules.specs.Tables.{says, kind_cell}
 use Rattle.rules.proofs.Logic.{contrary}
 use Rattle.rules.proofs.More.{still, stated_of}
 use Rattle.facts.specs.Additions.{Facts, Said, Among}
@@ -22,11 +22,6 @@ use Rattle.selections.proofs.Appended.{entries_of, single, below_both, at_single
 use Rattle.selections.proofs.Stands.{selection_in}
 use Rattle.derivation.specs.declared.pairs.Pair.{Pair}
 use Rattle.derivation.specs.Stands.{pair_of, no_pair, Pairs, SaidBy, Paired, PairsStand}
-
--- the cell of a kind alone
-abbrev pub kind_cell : Kind → ℕ
-kind_cell Kind.Ordered = 1
-kind_cell Kind.Compatible = 2
 
 -- what a statement adds to the list: an entry where it is a fact
 abbrev pub pair_in : Statement → List Pair

@@ -1,5 +1,5 @@
 // Derivation: all that the rules give from stated pairs and selections.
-ghost use Rattle.std.specs.Prelude.{◌*◌, [], length, ◌≡◌};
+ghost use Rattle.std.specs.Prelude.{◌*◌, length, ◌≡◌};
 ghost use Rattle.facts.specs.Additions.{Steps};
 ghost use Rattle.facts.specs.Growth.{state_of, IsSame};
 ghost use Rattle.derivation.specs.Stands.{Paired, InsertingPairs, Deriving, DerivedFrom};
@@ -25,7 +25,6 @@ pub fn derive(growth: &mut Growth, pairs: &[Pair], groups: &Groups)
     requires square { length growth.old.cells.now ≡ growth.old.n * growth.old.n }
     requires lawful { Deriving growth.old.n pairs.now groups.now }
     ensures derived_from { DerivedFrom growth.old.n pairs.now groups.now growth.new.cells.now }
-    ensures emptied { growth.new.queue.now.items ≡ [] }
     ensures same { IsSame growth.old growth.new }
 {
     growth.clear();
@@ -33,5 +32,4 @@ pub fn derive(growth: &mut Growth, pairs: &[Pair], groups: &Groups)
     growth.insert_reflexive();
     insert_pairs(growth, pairs);
     run(growth, groups);
-    growth.queue.clear();
 }

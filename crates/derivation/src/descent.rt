@@ -11,12 +11,10 @@ ghost use Rattle.derivation.specs.Settled.{Starting, Settled};
 
 use facts::Growth;
 use fields::Feature;
+use rules::NOTHING;
 use selections::Groups;
 use std::ops::Range;
 use table::{Entry, lacks};
-
-// A cell that says nothing.
-const NOTHING: u8 = 0;
 
 // Whether a place has the feature f, and w is not told yet of i and the child there.
 #[tactic(auto, unfolding(crate::specs::Descent::is_new, fields::specs::Tests::pick, fields::specs::Tests::same))]

@@ -3,7 +3,7 @@ use fields::Variable;
 
 #[derive(Clone, Copy, Default)]
 pub struct Pair {
-    // 1 for ≤, 2 for ~
+    // what is said of them, as a cell: it may say both kinds, so it is no Kind
     pub cell: u8,
     pub left: Variable,
     pub right: Variable,

@@ -7,7 +7,7 @@ ghost use Rattle.facts.specs.Growth.{state_of, with_table, IsSame};
 ghost use Rattle.facts.specs.Insertion.{Taking, TakingRow, TakingRows, Sides, RowTaken, RowsTaken};
 
 use fields::MOST_VARIABLES;
-use rules::Kind;
+use rules::{COMPATIBLE, Kind, NOTHING};
 use table::{Queue, Table, push, says, store};
 
 // The bytes of a table of n variables, and the pairs whose cells changed.
@@ -75,11 +75,11 @@ impl Growth<'_> {
         ensures added { Added self.old.n (Sides w x y) (state_of self.old) (state_of self.new) }
         ensures same { IsSame self.old self.new }
     {
-        if w != 0 {
+        if w != NOTHING {
             self.take_cell(w, x, y);
         }
         if says(Kind::Compatible, w) {
-            self.take_cell(2, y, x);
+            self.take_cell(COMPATIBLE, y, x);
         }
     }
 

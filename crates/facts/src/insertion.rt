@@ -9,7 +9,7 @@ ghost use Rattle.facts.specs.Insertion.{mark_of, cell_taken_at, Columns, Rows, L
 
 use crate::growth::Growth;
 use fields::MOST_VARIABLES;
-use rules::Kind;
+use rules::{BOTH, COMPATIBLE, Kind, NOTHING};
 use table::{lacks, says};
 
 impl Growth<'_> {
@@ -45,9 +45,9 @@ impl Growth<'_> {
         if says(Kind::Ordered, w) {
             self.look(v, y)
         } else if says(Kind::Ordered, self.look(y, v)) {
-            2
+            COMPATIBLE
         } else {
-            0
+            NOTHING
         }
     }
 
@@ -96,7 +96,7 @@ impl Growth<'_> {
         ensures same { IsSame self.old self.new }
     {
         for i in 0..self.n {
-            self.take_cell(3, i, i);
+            self.take_cell(BOTH, i, i);
         }
     }
 }

@@ -1,5 +1,5 @@
 // The way back: a table that grew is made the one again that it grew from.
-ghost use Rattle.std.specs.Prelude.{[], ◌≡◌};
+ghost use Rattle.std.specs.Prelude.{◌≡◌};
 ghost use Rattle.rules.specs.Tables.{cell_at};
 ghost use Rattle.table.specs.Cells.{Cell, with_cell};
 ghost use Rattle.facts.specs.Growth.{state_of, with_table, IsSame};
@@ -27,6 +27,7 @@ impl Growth<'_> {
         requires sizes { other.now.n ≡ self.old.n }
         requires restoring { Restoring self.old.n other.now.cells.now (state_of self.old) from }
         ensures table { self.new.cells.now ≡ other.now.cells.now }
+        ensures queue { self.new.queue.now.items ≡ self.old.queue.now.items }
         ensures same { IsSame self.old self.new }
     {
         for k in from..self.queue.len() {
@@ -35,12 +36,12 @@ impl Growth<'_> {
         }
     }
 
-    // Makes the table the other one again: by the queue where that is short, else as a whole; the queue is empty then.
+    // Makes the table the other one again: by the queue where that is short, else as a whole.
     pub fn restore(&mut self, other: &Table, from: usize)
         requires sizes { other.now.n ≡ self.old.n }
         requires restoring { Restoring self.old.n other.now.cells.now (state_of self.old) from }
         ensures table { self.new.cells.now ≡ other.now.cells.now }
-        ensures queue { self.new.queue.now.items ≡ [] }
+        ensures queue { self.new.queue.now.items ≡ self.old.queue.now.items }
         ensures same { IsSame self.old self.new }
     {
         if (self.queue.len() - from) * 32 < self.n * self.n {
@@ -48,6 +49,5 @@ impl Growth<'_> {
         } else {
             self.copy_from(other);
         }
-        self.queue.clear();
     }
 }

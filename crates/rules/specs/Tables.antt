@@ -10,6 +10,11 @@ unfoldable pub says : Kind → ℕ → Bool
 says Kind.Ordered cell = same cell 1 or same cell 3
 says Kind.Compatible cell = less 1 cell
 
+-- the cell of a kind alone
+abbrev pub kind_cell : Kind → ℕ
+kind_cell Kind.Ordered = 1
+kind_cell Kind.Compatible = 2
+
 -- the cell that says ≤ and ~ as two tests do
 unfoldable pub cell_of : Bool → Bool → ℕ
 cell_of le al = pick le 1 0 + pick al 2 0

@@ -1,10 +1,9 @@
-// What a cell says: 1 for ≤ plus 2 for ~. A cell, and what is said of a pair, is a byte and no enum, here and above: it is
-// a byte of the table that C lends, and can say both kinds.
+// Whether a cell says a fact.
 ghost use Rattle.std.specs.Prelude.{◌≡◌};
 ghost use Rattle.rules.specs.Tables.{says};
 ghost use Rattle.table.specs.Cells.{is_lacking};
 
-use rules::Kind;
+use rules::{BOTH, Kind, ORDERED};
 
 // Whether a cell says a fact of the kind.
 #[inline]
@@ -13,8 +12,8 @@ pub fn says(kind: Kind, cell: u8) -> bool
     ensures { result ≡ says kind cell }
 {
     match kind {
-        Kind::Ordered => cell == 1 || cell == 3,
-        Kind::Compatible => 1 < cell,
+        Kind::Ordered => cell == ORDERED || cell == BOTH,
+        Kind::Compatible => ORDERED < cell,
     }
 }
 
