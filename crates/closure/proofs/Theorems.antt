@@ -5,13 +5,14 @@ use mathlib.Core.List.{List, [], ◌∷◌, ◌++◌}
 use mathlib.Core.Path.{◌≡◌, sym, ap, ◌∙◌}
 use Rattle.std.specs.Prelude.{Option, None, is_some}
 use Rattle.items.specs.declared.items.Statement.{Statement}
-use Rattle.items.specs.Statements.{AllName}
+use Rattle.items.specs.Statements.{Names, AllName}
 use Rattle.rules.specs.declared.clashes.Clash.{Clash}
 use Rattle.rules.specs.declared.kinds.Kind.{Kind}
 use Rattle.rules.specs.Tables.{facts, count_facts}
 use Rattle.rules.specs.Derived.{derived, facts_of}
 use Rattle.rules.specs.Clashes.{clash_in_rows, clash_of, clashes}
 use Rattle.rules.specs.Support.{supported}
+use Rattle.facts.specs.declared.growth.Growth.{Growth}
 use Rattle.selections.specs.declared.grouped.Groups.{Groups}
 use Rattle.selections.specs.declared.listed.Selection.{Selection}
 use Rattle.selections.specs.Listed.{Selections, Listed}
@@ -26,7 +27,8 @@ use Rattle.answers.specs.Supports.{SingleLabels, SupportTold}
 use Rattle.answers.proofs.OneLabel.{single_labels_lem}
 use Rattle.derivation.specs.declared.pairs.Pair.{Pair}
 use Rattle.derivation.specs.Stands.{PairsStand, Pairs, Deriving, DerivedFrom}
-use Rattle.closure.specs.Trials.{Trying, Standing, Tried}
+use Rattle.derivation.proofs.Descending.{at_size}
+use Rattle.closure.specs.Trials.{Trying, Asking, Standing, Tried}
 
 -- groups made of a selection list
 module _ {n : ℕ} {list : List Selection} {before groups : Groups} (lawful : Selections n list)
@@ -49,6 +51,14 @@ module _ {n : ℕ} {list : List Selection} {before groups : Groups} (lawful : Se
           descends = from.descends;
           lawful = made_groups lawful grouping;
           spare = made_spare lawful grouping;
+        }
+
+    pub may_ask : (g : Growth) (q : Statement) → g.n ≡ n → g.cells.now ≡ t → Names g.n q → Asking t g groups q
+    may_ask g q same copied named =
+        record {
+          copied = copied;
+          trying = at_size (λ z. Trying z t groups) same may_try;
+          names = named;
         }
 
     -- statements that stand in the lists

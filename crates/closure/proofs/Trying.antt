@@ -28,14 +28,14 @@ use Rattle.closure.specs.Trials.{Trying, TryingFact, Tries, SubjectQueued}
 pub few_entries : (n size count : ℕ) → n ≤ most_variables → size ≤ 2 * n → size + 2 * (n * n) ≤ queue_room + count
 few_entries n size count few h = omega (arith, mul-le-mul few few)
 
-module _ {n : ℕ} {t : List ℕ} {queue : List Entry} {groups : Groups} {w i j : ℕ}
-    (trying : TryingFact n t queue groups w i j) where
+module _ {n : ℕ} {t : List ℕ} {queue : List Entry} {groups : Groups} {i j : ℕ}
+    (trying : TryingFact n t groups i j) (empty : queue ≡ []) where
   abbrev given_to : Trying n t groups
   given_to = trying.trying
 
   pub fact_ready : Ready n (state t queue)
   fact_ready =
-      rw trying.empty (record {
+      rw empty (record {
         few = given_to.few;
         shape = given_to.shape;
         room = few_entries n 0 _ given_to.few (omega arith);

@@ -26,8 +26,8 @@ use Rattle.derivation.specs.Settled.{Handed, Starting, Settled}
 use Rattle.closure.specs.Trials.{TryingSelection, Nothing, WithOne, before, last, Tries, SubjectQueued}
 use Rattle.closure.proofs.Trying.{few_entries}
 
-module _ {n : ℕ} {t : List ℕ} {queue : List Entry} {groups : Groups} {i : ℕ} {child : Child}
-    (trying : TryingSelection n t queue groups i child.variable.0)
+module _ {n : ℕ} {t : List ℕ} {groups : Groups} {i : ℕ} {child : Child}
+    (trying : TryingSelection n t groups i child.variable.0)
     (queue₁ : List Entry) (groups' : Groups) (kept : Kept)
     (put : Put i child groups groups' kept)
     (queued : SubjectQueued n i n queue₁) where

@@ -21,11 +21,10 @@ use Rattle.labels.specs.declared.spread.Spread.{Spread}
 use Rattle.labels.specs.Labels.{LabelsStand}
 use Rattle.derivation.specs.Settled.{Descends}
 
--- the same growth with the facts and entries of before, and the groups of before
+-- the same growth with the facts of before, and the groups of before
 pub record Restored (g g' : Growth) (groups groups' : Groups) : Type 0 where
   pub same : IsSame g g'
   pub table : g'.cells.now ≡ g.cells.now
-  pub queue : g'.queue.now.items ≡ g.queue.now.items
   pub grouped : groups' ≡ groups
 
 -- a closed table, and groups with free places
@@ -37,18 +36,15 @@ pub record Trying (n : ℕ) (t : List ℕ) (groups : Groups) : Type 0 where
   pub lawful : AreGroups n groups
   pub spare : Spare n groups
 
--- a fact on trial, with an empty queue
-pub record TryingFact (n : ℕ) (t : List ℕ) (queue : List Entry) (groups : Groups) (w i j : ℕ) : Type 0 where
+-- a fact on trial
+pub record TryingFact (n : ℕ) (t : List ℕ) (groups : Groups) (i j : ℕ) : Type 0 where
   pub trying : Trying n t groups
-  pub empty : queue ≡ []
-  pub cell : w < 4
   pub first : i < n
   pub second : j < n
 
 -- a selection on trial
-pub record TryingSelection (n : ℕ) (t : List ℕ) (queue : List Entry) (groups : Groups) (i j : ℕ) : Type 0 where
+pub record TryingSelection (n : ℕ) (t : List ℕ) (groups : Groups) (i j : ℕ) : Type 0 where
   pub trying : Trying n t groups
-  pub empty : queue ≡ []
   pub subject : i < n
   pub child : j < n
 
@@ -149,9 +145,8 @@ pub record Consistent (n : ℕ) (closed : List ℕ) (groups : Groups) (spreads :
 pub record Tried (n : ℕ) (Some : List Statement → Type 0) (q : Statement) (r : Bool) : Type 0 where
   pub answer : (st : List Statement) → Some st → r ≡ clashes (st ++ (q ∷ [])) n
 
--- a question on trial, in a copy of the closed table with an empty queue
+-- a question on trial, in a copy of the closed table
 pub record Asking (closed : List ℕ) (g : Growth) (groups : Groups) (q : Statement) : Type 0 where
   pub copied : g.cells.now ≡ closed
-  pub empty : g.queue.now.items ≡ []
   pub trying : Trying g.n closed groups
   pub names : Names g.n q

@@ -1,6 +1,7 @@
 // Trials: whether one statement more would clash. The closed table, the growth and the groups are three parameters: what
 // becomes of lent bytes is known for the fields of one struct, not for those of a struct within it.
 ghost use Rattle.std.specs.Prelude.{◌*◌, ◌≡◌};
+ghost use Rattle.rules.specs.Tables.{kind_cell};
 ghost use Rattle.facts.specs.Additions.{Said};
 ghost use Rattle.facts.specs.Growth.{IsSame};
 ghost use Rattle.selections.specs.Groups.{Grouped};
@@ -19,14 +20,15 @@ use rules::Kind;
 use selections::{Child, Groups};
 use table::{Entry, push, says};
 
-// Adds to a closed table what w says of i and j, and all that follows.
-fn try_fact(growth: &mut Growth, groups: &Groups, w: u8, i: usize, j: usize)
-    requires { TryingFact growth.old.n growth.old.cells.now growth.old.queue.now.items groups.now w i j }
-    ensures tries { Tries growth.old.n (Grouped groups.now) (Said w i j)
+// Adds to a closed table a fact of i and j, and all that follows.
+fn try_fact(growth: &mut Growth, groups: &Groups, kind: Kind, i: usize, j: usize)
+    requires { TryingFact growth.old.n growth.old.cells.now groups.now i j }
+    ensures tries { Tries growth.old.n (Grouped groups.now) (Said (kind_cell kind) i j)
         growth.old.cells.now growth.new.cells.now growth.new.queue.now.items 0 }
     ensures same { IsSame growth.old growth.new }
 {
-    growth.insert(w, i, j);
+    growth.queue.clear();
+    growth.insert(u8::from(kind), i, j);
     run(growth, groups);
 }
 
@@ -45,8 +47,7 @@ fn queue_subject(growth: &mut Growth, i: usize)
 
 // Adds to a closed table all that follows with a child of i: the first 2 × n entries are the pairs of i.
 fn try_selection(growth: &mut Growth, groups: &mut Groups, i: usize, child: Child)
-    requires { TryingSelection growth.old.n growth.old.cells.now growth.old.queue.now.items groups.old i
-        child.variable.0 }
+    requires { TryingSelection growth.old.n growth.old.cells.now groups.old i child.variable.0 }
     ensures tries { Tries growth.old.n
         (WithOne (Grouped groups.old) i child.feature.0 child.variable.0)
         Nothing growth.old.cells.now growth.new.cells.now growth.new.queue.now.items (2 * growth.old.n) }
@@ -54,6 +55,7 @@ fn try_selection(growth: &mut Growth, groups: &mut Groups, i: usize, child: Chil
     ensures grouped { groups.new ≡ groups.old }
 {
     let kept = groups.put(i, child);
+    growth.queue.clear();
     queue_subject(growth, i);
     run(growth, groups);
     groups.take_out(i, kept);
@@ -87,18 +89,18 @@ fn fact_clashes(
     closed: &Closed,
     growth: &mut Growth,
     groups: &Groups,
-    w: u8,
+    kind: Kind,
     i: usize,
     j: usize,
 ) -> bool
-    requires trying { TryingFact growth.old.n growth.old.cells.now growth.old.queue.now.items groups.now w i j }
+    requires trying { TryingFact growth.old.n growth.old.cells.now groups.now i j }
     requires sizes { variables_of closed.now ≡ growth.old.n }
     requires copied { growth.old.cells.now ≡ table_of closed.now }
-    ensures searched { Searched growth.old.n (Grouped groups.now) (Said w i j)
+    ensures searched { Searched growth.old.n (Grouped groups.now) (Said (kind_cell kind) i j)
         (table_of closed.now) (spreads_of closed.now) result }
     ensures restored { Restored growth.old growth.new groups.now groups.now }
 {
-    try_fact(growth, groups, w, i, j);
+    try_fact(growth, groups, kind, i, j);
     let found = clash_queued(growth, closed.labels, 0);
     growth.restore(closed.table, 0);
     found
@@ -112,8 +114,7 @@ fn selection_clashes(
     i: usize,
     child: Child,
 ) -> bool
-    requires trying { TryingSelection growth.old.n growth.old.cells.now growth.old.queue.now.items groups.old i
-        child.variable.0 }
+    requires trying { TryingSelection growth.old.n growth.old.cells.now groups.old i child.variable.0 }
     requires sizes { variables_of closed.now ≡ growth.old.n }
     requires copied { growth.old.cells.now ≡ table_of closed.now }
     ensures searched { Searched growth.old.n
@@ -137,15 +138,12 @@ fn try_statement(closed: &Closed, growth: &mut Growth, groups: &mut Groups, q: S
     ensures restored { Restored growth.old growth.new groups.old groups.new }
 {
     match q {
-        Statement::Ordering(i, j) => fact_clashes(closed, growth, groups, 1, i.index(), j.index()),
-        Statement::Compatibility(i, j) => fact_clashes(
-            closed,
-            growth,
-            groups,
-            2,
-            i.index(),
-            j.index(),
-        ),
+        Statement::Ordering(i, j) => {
+            fact_clashes(closed, growth, groups, Kind::Ordered, i.index(), j.index())
+        }
+        Statement::Compatibility(i, j) => {
+            fact_clashes(closed, growth, groups, Kind::Compatible, i.index(), j.index())
+        }
         Statement::Selection(i, feature, variable) => {
             selection_clashes(
                 closed,
@@ -179,7 +177,7 @@ fn try_where_labels_differ(
     false
 }
 
-// Whether closed statements clash with q behind them, tried in a copy of their table with an empty queue.
+// Whether closed statements clash with q behind them, tried in a copy of their table.
 pub fn trial(closed: &Closed, growth: &mut Growth, groups: &mut Groups, q: Statement) -> bool
     requires sizes { variables_of closed.now ≡ growth.old.n }
     requires asking { Asking (table_of closed.now) growth.old groups.old q }

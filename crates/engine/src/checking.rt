@@ -1,5 +1,5 @@
 // The check of a sheet: all facts, and the verdict; on a consistent sheet one reply a question.
-ghost use Rattle.std.specs.Prelude.{◌≤◌, [], length, replicate, map, None, ◌≡◌};
+ghost use Rattle.std.specs.Prelude.{◌≤◌, length, replicate, map, None, ◌≡◌};
 ghost use Rattle.headers.specs.Headers.{size_for};
 ghost use Rattle.sheet.specs.Sheets.{longest, sheet_of};
 ghost use Rattle.rules.specs.Replies.{replies_of, reply_number};
@@ -33,7 +33,6 @@ fn refused(refusal: Refusal) -> Outcome
 fn close(facts: &mut [u8], n: usize, lists: &Lists, groups: &mut Groups, queue: &mut Queue)
     requires { Lawful n lists.now.pairs.items lists.now.selections.items (length facts.old) }
     ensures made { Made n lists.now.pairs.items lists.now.selections.items groups.new facts.new }
-    ensures emptied { queue.new.items ≡ [] }
 {
     let mut growth = Growth {
         cells: facts,
@@ -61,7 +60,6 @@ fn reply_in_copy(
         growth.old.cells.now replies.old }
     requires sizes { variables_of closed.now ≡ growth.old.n }
     requires consistent { closed.now.clash ≡ None }
-    requires empty { growth.old.queue.now.items ≡ [] }
     ensures cleared { growth.new.cells.now ≡ replicate (length growth.old.cells.now) 0 }
     ensures same { IsSame growth.old growth.new }
     ensures replied { replies.new ≡ map reply_number (replies_of (sheet_of sheet.now)) }
@@ -83,7 +81,6 @@ fn answer(
     replies: &mut [u8],
 )
     requires answering { Answering sheet.now accepted closed.now groups.old (sheet_of sheet.now).stated work.old replies.old }
-    requires empty { queue.old.items ≡ [] }
     ensures cleared { work.new
         ≡ where_consistent (verdict_by closed.now.clash) (replicate (length work.old) 0) work.old }
     ensures replied { replies.new

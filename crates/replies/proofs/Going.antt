@@ -26,7 +26,7 @@ use Rattle.replies.proofs.Answered.{Answers, answers_start, question_named, answ
 
 -- all is as it was
 pub restored_none : (g : Growth) (groups : Groups) → Restored g g groups groups
-restored_none g groups = record { same = same_none g; table = refl; queue = refl; grouped = refl }
+restored_none g groups = record { same = same_none g; table = refl; grouped = refl }
 
 pub restored_then : {g g' g'' : Growth} {groups groups' groups'' : Groups} → Restored g g' groups groups'
     → Restored g' g'' groups' groups'' → Restored g g'' groups groups''
@@ -34,7 +34,6 @@ restored_then a b =
     record {
       same = same_then a.same b.same;
       table = b.table ∙ a.table;
-      queue = b.queue ∙ a.queue;
       grouped = b.grouped ∙ a.grouped;
     }
 
@@ -49,7 +48,7 @@ module _ (s : List ℕ) {c : Closed} {g g' : Growth} {groups groups' : Groups} {
       subst (λ m. r ≡ reply_to (sheet m (sheet_of s).stated (sheet_of s).asked) q) (sym variables)
       (of_n.told (sheet_of s).stated (sheet_of s).asked (rw restored.grouped held))
 
--- k questions are replied to, and table, queue and groups are as they were
+-- k questions are replied to, and table and groups are as they were
 pub record Going (s : List ℕ) (n : ℕ) (g g' : Growth) (groups groups' : Groups) (cursor : Cursor) (k : ℕ)
     (replies : List ℕ) : Type 0 where
   pub answers : Answers s n (length replies - k) cursor k replies

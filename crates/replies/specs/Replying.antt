@@ -1,5 +1,5 @@
 -- When questions can be replied to, and what the replies are.
-use Rattle.std.specs.Prelude.{ℕ, length, List, [], Ok, None, ◌≡◌}
+use Rattle.std.specs.Prelude.{ℕ, length, List, Ok, None, ◌≡◌}
 use Rattle.headers.specs.Headers.{reply_count}
 use Rattle.items.specs.declared.items.Statement.{Statement}
 use Rattle.items.specs.Questions.{Query}
@@ -16,11 +16,10 @@ use Rattle.closure.specs.declared.closed.Closed.{Closed}
 use Rattle.closure.specs.Trials.{Trying, Standing}
 use Rattle.closure.specs.Making.{variables_of, table_of, spreads_of, IsTold}
 
--- closed statements that do not clash, a growth with a copy of their table and an empty queue, and their groups
+-- closed statements that do not clash, a growth with a copy of their table, and their groups
 pub record Replying (c : Closed) (g : Growth) (groups : Groups) : Type 0 where
   pub sizes : variables_of c ≡ g.n
   pub copied : g.cells.now ≡ table_of c
-  pub empty : g.queue.now.items ≡ []
   pub trying : Trying g.n (table_of c) groups
   pub told : IsTold c
   pub consistent : c.clash ≡ None

@@ -29,7 +29,7 @@ fn reply_statement(closed: &Closed, growth: &mut Growth, groups: &mut Groups, x:
     Reply::Open
 }
 
-// The reply to a question; table, queue and groups are then as they were.
+// The reply to a question; table and groups are then as they were.
 pub fn reply(closed: &Closed, growth: &mut Growth, groups: &mut Groups, question: Question) -> Reply
     requires replying { Replying closed.now growth.old groups.old }
     requires names { Asks growth.old.n (query_of question) }

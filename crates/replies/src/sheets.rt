@@ -12,7 +12,7 @@ use items::read_question;
 use selections::Groups;
 use sheet::Accepted;
 
-// Writes one reply a question; table, queue and groups are then as they were.
+// Writes one reply a question; table and groups are then as they were.
 pub fn reply_all(
     sheet: &[u8],
     accepted: Accepted,

@@ -2,6 +2,7 @@
 ghost use Rattle.std.specs.Prelude.{◌<◌, length, replicate, [], ◌∷◌, ◌≡◌, option_to_list};
 ghost use Rattle.fields.specs.Limits.{most_variables, most_items};
 ghost use Rattle.items.specs.Statements.{statements_of};
+ghost use Rattle.rules.specs.Tables.{kind_cell};
 ghost use Rattle.labels.specs.declared.spread.Spread.{Spread};
 ghost use Rattle.statements.specs.Lists.{pairs_room, with_pair, with_selection, pairs_in, selections_in};
 ghost use Rattle.statements.specs.Lists.{pairs_if, selections_if, Putting, Put};
@@ -11,6 +12,7 @@ use derivation::Pair;
 use fields::{Feature, MOST_ITEMS, Variable};
 use items::{Item, Statement};
 use labels::Labels;
+use rules::Kind;
 use selections::Selection;
 
 // As many pairs as records can state: two each.
@@ -42,11 +44,15 @@ impl Lists {
     }
 
     // Puts a pair behind the others.
-    fn put_pair(&mut self, cell: u8, left: Variable, right: Variable)
+    fn put_pair(&mut self, kind: Kind, left: Variable, right: Variable)
         requires { length self.old.pairs.items < pairs_room }
-        ensures { self.new ≡ with_pair self.old cell left.0 right.0 }
+        ensures { self.new ≡ with_pair self.old (kind_cell kind) left.0 right.0 }
     {
-        self.pairs.push(Pair { cell, left, right });
+        self.pairs.push(Pair {
+            cell: u8::from(kind),
+            left,
+            right,
+        });
     }
 
     // Puts a selection behind the others.
@@ -67,8 +73,8 @@ impl Lists {
         ensures { Put (q ∷ []) (pairs_in q) (selections_in q) self.old self.new }
     {
         match q {
-            Statement::Ordering(i, j) => self.put_pair(1, i, j),
-            Statement::Compatibility(i, j) => self.put_pair(2, i, j),
+            Statement::Ordering(i, j) => self.put_pair(Kind::Ordered, i, j),
+            Statement::Compatibility(i, j) => self.put_pair(Kind::Compatible, i, j),
             Statement::Selection(i, f, j) => self.put_selection(i, f, j),
             Statement::Labelling(i, a) => self.labels.note(i.index(), a),
         }

@@ -1,23 +1,23 @@
 -- The way back, one entry at a time.
-use Rattle.std.proofs.Common.{rules, arith, length, refl, ap}
-use Rattle.facts.proofs.Restores.{restored, restore_next}
+use Rattle.std.proofs.Common.{refl}
+use Rattle.facts.proofs.Restores.{restore_start, restore_end, restore_cell, restore_more}
 use Rattle.facts.proofs.growth.Growth.restore_queued.Goals as goal
 
-pub loop-k-preserved : goal.loop-k-preserved
-loop-k-preserved c =
-    let invariant = c.loop-k.invariant in
-    let size = ap (λ q. length q.items) invariant.queue in
+pub loop-entry-init : goal.loop-entry-init
+loop-entry-init c = record { ahead = restore_start _ c.deref.ensures.0 c.requires.restoring; same = refl }
+
+pub store-requires : goal.store-requires
+store-requires c =
+    restore_cell _ c.deref.ensures.0 c.loop-entry.invariant.ahead c.loop-entry-test.true c.index-x.ensures c.index-y.ensures
+
+pub loop-entry-preserved : goal.loop-entry-preserved
+loop-entry-preserved c =
     record {
       ahead =
-          rw c.restore_entry.ensures
-          (restore_next invariant.ahead (omega (arith, size, c.len-k-end.ensures.value, c.loop-k-test.true)) _
-          (rw (c.deref.ensures.0, invariant.same.n, c.requires.sizes) refl));
-      queue = search rules;
-      same = search rules;
+          restore_more _ c.deref.ensures.0 c.loop-entry.invariant.ahead c.loop-entry-test.true c.index-x.ensures
+          c.index-y.ensures c.requires.sizes c.look.ensures c.store.ensures;
+      same = c.loop-entry.invariant.same;
     }
 
 pub returns-clause-table : goal.returns-clause-table
-returns-clause-table c =
-    let invariant = c.loop-k.invariant in
-    let size = ap (λ q. length q.items) invariant.queue in
-    restored invariant.ahead (omega (arith, size, c.len-k-end.ensures.value, c.loop-k-test.false))
+returns-clause-table c = restore_end _ c.deref.ensures.0 c.loop-entry.invariant.ahead c.loop-entry-test.false
