@@ -15,7 +15,7 @@ use Rattle.rules.specs.declared.clashes.Clash.{Clash}
 use Rattle.rules.specs.Stated.{selection, labelling}
 use Rattle.rules.specs.declared.kinds.Kind.{Kind}
 use Rattle.rules.specs.Facts.{fact}
-use Rattle.rules.specs.Tables.{facts}
+use Rattle.rules.specs.Tables.{kind_cell, facts}
 use Rattle.rules.specs.Clashes.{clash_in_rows, clash_of, clashes}
 use Rattle.rules.proofs.Lists.{all_with}
 use Rattle.facts.specs.Additions.{Said}

@@ -19,6 +19,7 @@ use Rattle.selections.proofs.Stands.{more_selections, more_selections_stand, oth
 use Rattle.labels.specs.Labels.{NoLabelling}
 use Rattle.labels.proofs.Kept.{noted, other_kind}
 use Rattle.derivation.specs.Stands.{pair_of}
+use Rattle.rules.specs.Tables.{kind_cell}
 use Rattle.derivation.proofs.Stands.{no_subject, more_pairs, more_pairs_stand, other_than_pair}
 use Rattle.statements.specs.declared.lists.Lists.{Lists}
 use Rattle.statements.specs.Lists.{Putting, Put, pairs_in, selections_in, pairs_if, selections_if, pairs_room, with_pair, with_selection}

@@ -7,4 +7,5 @@ run-requires c = starting_at c.insert.ensures.same.n (fact_run c.requires c.clea
 
 pub returns-clause-tries : goal.returns-clause-tries
 returns-clause-tries c =
-    fact_tried c.requires c.clear.ensures c.insert.ensures.steps (settled_to c.insert.ensures.same.n c.run.ensures.settled)
+    fact_tried c.requires c.clear.ensures (rw c.from.ensures at c.insert.ensures.steps)
+    (settled_to c.insert.ensures.same.n c.run.ensures.settled)
