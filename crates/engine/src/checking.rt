@@ -80,7 +80,7 @@ fn answer(
     queue: &mut Queue,
     replies: &mut [u8],
 )
-    requires answering { Answering sheet.now accepted closed.now groups.old (sheet_of sheet.now).stated work.old replies.old }
+    requires { Answering sheet.now accepted closed.now groups.old (sheet_of sheet.now).stated work.old replies.old }
     ensures cleared { work.new
         ≡ where_consistent (verdict_by closed.now.clash) (replicate (length work.old) 0) work.old }
     ensures replied { replies.new

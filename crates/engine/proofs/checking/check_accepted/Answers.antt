@@ -5,8 +5,8 @@ use Rattle.labels.specs.declared.labels.Labels.{Labels}
 use Rattle.engine.proofs.Steps.{lists_answering, lists_filled}
 use Rattle.engine.proofs.checking.check_accepted.Goals as goal
 
-pub answer-requires-clause-answering : goal.answer-requires-clause-answering
-answer-requires-clause-answering c =
+pub answer-requires : goal.answer-requires
+answer-requires c =
     let known = c.new-closed.ensures in
     lists_answering c.requires c.gather-lists.ensures (rw c.from-n.ensures at c.close.ensures.made)
     (ap (λ (t : Table). t.n) known.table ∙ c.from-n.ensures)
