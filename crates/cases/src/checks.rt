@@ -1,23 +1,18 @@
 // How a sheet is checked, with lent buffers that are long enough or one byte short.
-use engine::Outcome;
+use crate::case::Case;
+use engine::{LARGEST_TABLE, MOST_REPLIES, Outcome};
 use std::alloc::Global;
 use std::io::{Result, Write};
 
-// The word of an outcome, and its two numbers. No Display: treecheck's lines are the outcome's text, and this is the text
-// of the cases alone.
-fn told(outcome: Outcome) -> (&'static str, u16, u16) {
+// No Display: treecheck's lines are the outcome's text, and this is the text of the cases alone.
+fn write_outcome(out: &mut impl Write, outcome: Outcome) -> Result<()> {
     match outcome {
         Outcome::Consistent(orderings, compatibilities) => {
-            ("consistent", orderings, compatibilities)
+            write!(out, " consistent {orderings} {compatibilities}")
         }
-        Outcome::Clash(i, j) => ("clash", u16::from(i.0), u16::from(j.0)),
-        Outcome::Refused(fault, at) => ("refused", u16::from(u8::from(fault)), at),
+        Outcome::Clash(i, j) => write!(out, " clash {} {}", i.0, j.0),
+        Outcome::Refused(fault, at) => write!(out, " refused {} {at}", u8::from(fault)),
     }
-}
-
-fn write_outcome(out: &mut impl Write, outcome: Outcome) -> Result<()> {
-    let (word, first, second) = told(outcome);
-    write!(out, " {word} {first} {second}")
 }
 
 // The outcome with two tables and a reply buffer of so many bytes.
@@ -40,25 +35,30 @@ fn check(
 }
 
 // The check with room for any sheet.
-pub fn show_outcome(out: &mut impl Write, alloc: Global, name: &str, bytes: &[u8]) -> Result<()> {
-    write!(out, "{name}:")?;
-    check(out, alloc, bytes, [16_384, 16_384, 1024])?;
+pub fn show_outcome(out: &mut impl Write, alloc: Global, case: &Case) -> Result<()> {
+    let most = [LARGEST_TABLE, LARGEST_TABLE, MOST_REPLIES];
+    case.begin(out)?;
+    check(out, alloc, case.bytes, most)?;
     writeln!(out)
 }
 
 // The check with buffers of just the size; then with the first table, the second, the replies, and all a byte short.
-pub fn show_buffers(out: &mut impl Write, alloc: Global, name: &str, bytes: &[u8]) -> Result<()> {
-    write!(out, "{name}:")?;
-    if let Ok(h) = engine::read_header(bytes) {
-        let size = h.table_size();
-        let count = usize::from(h.question_count());
+pub fn show_buffers(out: &mut impl Write, alloc: Global, case: &Case) -> Result<()> {
+    case.begin(out)?;
+    if let Ok(header) = engine::read_header(case.bytes) {
+        let size = header.table_size();
+        let count = header.reply_count();
         let less_size = size.saturating_sub(1);
         let less_count = count.saturating_sub(1);
-        check(out, alloc, bytes, [size, size, count])?;
-        check(out, alloc, bytes, [less_size, size, count])?;
-        check(out, alloc, bytes, [size, less_size, count])?;
-        check(out, alloc, bytes, [size, size, less_count])?;
-        check(out, alloc, bytes, [less_size, less_size, less_count])?;
+        for lengths in [
+            [size, size, count],
+            [less_size, size, count],
+            [size, less_size, count],
+            [size, size, less_count],
+            [less_size, less_size, less_count],
+        ] {
+            check(out, alloc, case.bytes, lengths)?;
+        }
     }
     writeln!(out)
 }

@@ -1,17 +1,14 @@
 // Every truncation of a sheet, and the longest sheet.
+use crate::case::Case;
 use crate::checks::show_outcome;
 use crate::readings::show_sheet;
+use engine::LONGEST_SHEET;
 use std::alloc::Global;
 use std::io::{Result, Write};
 
-// The first so many bytes, or all where there are fewer.
-fn first(bytes: &[u8], count: usize) -> &[u8] {
-    &bytes[..count.min(bytes.len())]
-}
-
-pub fn show_cuts(out: &mut impl Write, name: &str, bytes: &[u8]) -> Result<()> {
-    for count in 0..=bytes.len() {
-        show_sheet(out, name, first(bytes, count))?;
+pub fn show_cuts(out: &mut impl Write, case: &Case) -> Result<()> {
+    for count in 0..=case.bytes.len() {
+        show_sheet(out, &case.cut(count))?;
     }
     Ok(())
 }
@@ -30,16 +27,20 @@ fn longest_and_one(alloc: Global) -> Result<Vec<u8>> {
 }
 
 // How the longest sheet, one byte less and one more are read.
-fn show_readings(out: &mut impl Write, name: &str, more: &[u8]) -> Result<()> {
-    show_sheet(out, name, first(more, 14_342))?;
-    show_sheet(out, name, first(more, 14_341))?;
-    show_sheet(out, name, more)
+fn show_readings(out: &mut impl Write, more: &Case) -> Result<()> {
+    show_sheet(out, &more.cut(LONGEST_SHEET))?;
+    show_sheet(out, &more.cut(LONGEST_SHEET - 1))?;
+    show_sheet(out, more)
 }
 
 // The first and the last are checked too.
-pub fn show_longest(out: &mut impl Write, alloc: Global, name: &str) -> Result<()> {
-    let more = longest_and_one(alloc)?;
-    show_readings(out, name, more.as_slice())?;
-    show_outcome(out, alloc, name, first(more.as_slice(), 14_342))?;
-    show_outcome(out, alloc, name, more.as_slice())
+pub fn show_longest(out: &mut impl Write, alloc: Global, case: &Case) -> Result<()> {
+    let bytes = longest_and_one(alloc)?;
+    let more = Case {
+        bytes: bytes.as_slice(),
+        ..*case
+    };
+    show_readings(out, &more)?;
+    show_outcome(out, alloc, &more.cut(LONGEST_SHEET))?;
+    show_outcome(out, alloc, &more)
 }

@@ -19,28 +19,11 @@ fn variables(out: &mut impl Write, sheet: &[u8], n: u8) -> Result<()> {
 
 // The questions, each with the reply to it; a byte that is no reply would tell nothing.
 fn questions(out: &mut impl Write, count: usize, replies: &[u8]) -> Result<()> {
-    for (k, byte) in (0..count).zip(replies) {
+    for (k, byte) in replies.iter().take(count).enumerate() {
         let reply = Reply::try_from(*byte).unwrap_or(Reply::Open);
         writeln!(out, "ask {k} {reply}")?;
     }
     Ok(())
-}
-
-// What is told of a consistent sheet.
-fn consistent(
-    out: &mut impl Write,
-    sheet: &[u8],
-    orderings: u16,
-    compatibilities: u16,
-    replies: &[u8],
-) -> Result<()> {
-    let Ok(header) = engine::read_header(sheet) else {
-        return Ok(());
-    };
-    let n = header.variable_count();
-    writeln!(out, "consistent {n} {orderings} {compatibilities}")?;
-    variables(out, sheet, n)?;
-    questions(out, header.reply_count(), replies)
 }
 
 // All lines of an outcome.
@@ -49,7 +32,14 @@ pub fn print(out: &mut impl Write, sheet: &[u8], outcome: Outcome, replies: &[u8
         Outcome::Refused(fault, at) => writeln!(out, "refused {} {at}", u8::from(fault)),
         Outcome::Clash(i, j) => writeln!(out, "clash {} {}", i.0, j.0),
         Outcome::Consistent(orderings, compatibilities) => {
-            consistent(out, sheet, orderings, compatibilities, replies)
+            // a consistent sheet has a header
+            let Ok(header) = engine::read_header(sheet) else {
+                return Ok(());
+            };
+            let n = header.variable_count();
+            writeln!(out, "consistent {n} {orderings} {compatibilities}")?;
+            variables(out, sheet, n)?;
+            questions(out, header.reply_count(), replies)
         }
     }
 }

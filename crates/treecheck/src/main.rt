@@ -9,8 +9,9 @@ use std::io::{self, BufWriter, Read, Write};
 
 // The first bytes of the input, one more than the longest sheet has, to its end where it has no more. What stands
 // behind them changes no outcome: `beyond_outcome` (crate promise, Beyond).
-fn read_sheet<R: Read + Drop>(alloc: Global, input: R) -> io::Result<Vec<u8>> {
+fn read_sheet(alloc: Global, input: impl Read + Drop) -> io::Result<Vec<u8>> {
     let mut sheet = Vec::new(alloc);
+    // by `as`: usize has no `From` into u64
     input
         .take(LONGEST_SHEET as u64 + 1)
         .read_to_end(&mut sheet)?;

@@ -1,0 +1,44 @@
+// A case, and what it shows by its word.
+use crate::{checks, lengths, readings};
+use std::alloc::Global;
+use std::io::{Result, Write};
+
+// One line of the text.
+#[derive(Clone, Copy)]
+pub struct Case<'a> {
+    // which reading or check is shown
+    pub word: &'a str,
+    // all that stands before the colon, the word too
+    pub name: &'a str,
+    // the sheet
+    pub bytes: &'a [u8],
+}
+
+impl Case<'_> {
+    // The same case of the first so many bytes, or of all where there are fewer.
+    pub fn cut(&self, count: usize) -> Self {
+        Case {
+            bytes: &self.bytes[..count.min(self.bytes.len())],
+            ..*self
+        }
+    }
+
+    // Begins a line.
+    pub fn begin(&self, out: &mut impl Write) -> Result<()> {
+        write!(out, "{}:", self.name)
+    }
+
+    // What the word asks for; any other word shows nothing.
+    pub fn show(&self, out: &mut impl Write, alloc: Global) -> Result<()> {
+        match self.word {
+            "sheet" => readings::show_sheet(out, self),
+            "header" => readings::show_header(out, self),
+            "records" => readings::show_records(out, self),
+            "cuts" => lengths::show_cuts(out, self),
+            "longest" => lengths::show_longest(out, alloc, self),
+            "outcome" => checks::show_outcome(out, alloc, self),
+            "buffers" => checks::show_buffers(out, alloc, self),
+            _ => Ok(()),
+        }
+    }
+}
