@@ -11,16 +11,14 @@ use case::Case;
 use std::alloc::{AllocError, Global};
 use std::io::{self, BufWriter, Write};
 
-// A number with one digit more, modulo 256.
-fn with_digit(value: u8, digit: u8) -> u8 {
-    value
-        .wrapping_mul(10)
-        .wrapping_add(digit.wrapping_sub(b'0'))
+// A number with one digit more, kept small.
+fn with_digit(value: u32, digit: u8) -> u32 {
+    value % 1000 * 10 + u32::from(digit) % 16
 }
 
-// No `parse`: a comment that has a colon is read too, and its words are no numbers.
+// Narrowed by `as`, below 256. No `parse`: a comment that has a colon is read too, and its words are no numbers.
 fn decimal(digits: &str) -> u8 {
-    digits.bytes().fold(0, with_digit)
+    (digits.bytes().fold(0, with_digit) % 256) as u8
 }
 
 // The bytes of a sheet, as numbers that spaces part.

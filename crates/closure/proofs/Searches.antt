@@ -1,22 +1,27 @@
 -- The search of the queue for a pair to which F5 applies.
-use Prim.Native.Nat.{ℕ, ◌+◌, ◌<◌, ◌≤◌}
-use lib.ListN.{length}
+use Prim.Native.Nat.{ℕ, ◌+◌, ◌-◌, ◌<◌, ◌≤◌}
+use lib.ListN.{length, get_or}
 use mathlib.Core.Bool.{Bool, true, false}
 use mathlib.Core.List.{List}
-use mathlib.Core.Path.{◌≡◌, refl, sym, ap, ◌∙◌}
+use mathlib.Core.Path.{◌≡◌, sym, ap, ◌∙◌}
 use native.Mathlib.Omega.{arith}
+use Rattle.std.specs.Prelude.{◌↔◌}
+use Rattle.std.specs.List.{list_any}
+use Rattle.std.proofs.lemmas.List.{get_or_default}
+use Rattle.std.proofs.lemmas.List.Folds.{list_any_at}
 use Rattle.items.specs.declared.items.Statement.{Statement}
 use Rattle.rules.specs.declared.kinds.Kind.{Kind}
 use Rattle.rules.specs.Tables.{says, cell_at, facts}
 use Rattle.rules.specs.Clashes.{clashes_at}
-use Rattle.rules.proofs.Logic.{last_or_before, contrary}
 use Rattle.rules.proofs.Tables.{fact_said}
 use Rattle.table.specs.declared.queue.Entry.{Entry}
-use Rattle.table.specs.Queue.{entry_at}
+use Rattle.table.specs.Queue.{no_entry, entry_at}
+use Rattle.table.proofs.Entries.{entries_from, left_of, is_left, entry_left}
 use Rattle.labels.specs.declared.spread.Spread.{Spread}
-use Rattle.labels.specs.Labels.{LabelsStand, DifferTold}
+use Rattle.labels.specs.Labels.{DifferTold}
 use Rattle.answers.proofs.Logic.{fails_first, second_decides}
-use Rattle.closure.specs.Trials.{Searching, entry_clashes, EntryTold, QueueTold}
+use Rattle.answers.proofs.Ranges.{passing_at}
+use Rattle.closure.specs.Trials.{Searching, entry_clashes, EntryTold, Sought, QueuedClash}
 
 -- one entry, whose variables were taken from it
 module _ {n : ℕ} {t : List ℕ} {entry : Entry} (searching : Searching n t entry) (i j : ℕ) (first : i ≡ entry.first.0)
@@ -48,43 +53,42 @@ module _ {n : ℕ} {t : List ℕ} {entry : Entry} (searching : Searching n t ent
     entry_clear p =
         record { told = λ st stand. rw (← first, ← second) (sym (fails_first _ (of_cell ∙ p))) }
 
--- F5 applies to none of the entries, from one place on up to another
-pub record Clear (n : ℕ) (t : List ℕ) (spreads : List Spread) (queue : List Entry) (from upto : ℕ) : Type 0 where
-  pub clear : (st : List Statement) → LabelsStand n st spreads → (k : ℕ) → from ≤ k → k < upto
-      → entry_clashes n t st (entry_at queue k) ≡ false
+-- the entries from a place on, as they are read one after another: each has variables below n
+pub may_search : {n : ℕ} {t : List ℕ} {queue items : List Entry} (from : ℕ) → items ≡ queue → Sought n t queue from
+    → (entry : Entry) (k : ℕ) → k < length (entries_from from items)
+    → entry ≡ get_or (entries_from from items) k entry → Searching n t entry
+may_search {items = items} from read sought entry k h e =
+    let is = e ∙ get_or_default (entries_from from items) k entry no_entry h ∙ entry_left from k read h in
+    record {
+      few = sought.few;
+      shape = sought.shape;
+      pair = rw is (sought.entries (from + k) (is_left from k read h));
+    }
 
-pub clear_start : {n : ℕ} {t : List ℕ} {spreads : List Spread} {queue : List Entry} {from : ℕ}
-    → Clear n t spreads queue from from
-clear_start = record { clear = λ st stand x h g. absurd (omega arith) }
+-- F5 applies to one of them where it applies to an entry of the queue
+module _ (n : ℕ) (t : List ℕ) (st : List Statement) {queue items : List Entry} (from : ℕ) (read : items ≡ queue) where
+  abbrev applies : Entry → Bool
+  applies = entry_clashes n t st
 
-module _ {n : ℕ} {t : List ℕ} {spreads : List Spread} {queue : List Entry} {from k : ℕ} where
-  -- one entry more to which it does not apply
-  pub clear_next : {r : Bool} → Clear n t spreads queue from k → EntryTold n t spreads (entry_at queue k) r → r ≡ false
-      → Clear n t spreads queue from (k + 1)
-  clear_next seen told p =
+  one_applies : list_any applies (entries_from from items) ≡ true → QueuedClash n t st queue from
+  one_applies p =
+      passing_at applies (entries_from from items) no_entry p λ k h q.
       record {
-        clear = λ st stand x h g.
-            last_or_before x k (omega arith) (λ e. rw e (sym (told.told st stand) ∙ p))
-            (λ c. seen.clear st stand x h c);
+        at = from + k;
+        behind = omega arith;
+        ahead = is_left from k read h;
+        applies = ap applies (sym (entry_left from k read h)) ∙ q;
       }
 
-  -- an entry to which it applies
-  pub clash_found : {r : Bool} → from ≤ k → k < length queue → EntryTold n t spreads (entry_at queue k) r → r ≡ true
-      → QueueTold n t spreads queue from true
-  clash_found h g told p =
-      record {
-        told = λ st stand. (
-          λ q. record { at = k; behind = h; ahead = g; applies = sym (told.told st stand) ∙ p },
-          λ e. refl,
-        );
-      }
+  -- and the other way round
+  applies_to_one : QueuedClash n t st queue from → list_any applies (entries_from from items) ≡ true
+  applies_to_one e =
+      let k = e.at - from in
+      let h = left_of from k read (omega (arith, e.ahead, e.behind)) in
+      let place : from + k ≡ e.at = omega (arith, e.behind) in
+      list_any_at applies (entries_from from items) k no_entry h
+      (ap applies (entry_left from k read h ∙ ap (entry_at queue) place) ∙ e.applies)
 
-  -- there is none
-  pub none_found : length queue ≤ k → Clear n t spreads queue from k → QueueTold n t spreads queue from false
-  none_found h seen =
-      record {
-        told = λ st stand. (
-          λ q. absurd (contrary q refl),
-          λ e. absurd (contrary e.applies (seen.clear st stand e.at e.behind (omega (arith, e.ahead)))),
-        );
-      }
+  pub searched : {r : Bool} → r ≡ list_any applies (entries_from from items)
+      → (r ≡ true) ↔ QueuedClash n t st queue from
+  searched is = (λ p. one_applies (sym is ∙ p), λ e. is ∙ applies_to_one e)

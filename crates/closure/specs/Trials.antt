@@ -100,10 +100,11 @@ entry_clashes n t st entry = clashes_at st (facts n t) entry.first.0 entry.secon
 pub record EntryTold (n : ℕ) (t : List ℕ) (spreads : List Spread) (entry : Entry) (r : Bool) : Type 0 where
   pub told : (st : List Statement) → LabelsStand n st spreads → r ≡ entry_clashes n t st entry
 
--- a table, and a queue of such entries
-pub record Sought (n : ℕ) (t : List ℕ) (queue : List Entry) : Type 0 where
+-- a table, and a queue of such entries with a place in it
+pub record Sought (n : ℕ) (t : List ℕ) (queue : List Entry) (from : ℕ) : Type 0 where
   pub few : n ≤ most_variables
   pub shape : Shape n t
+  pub begin : from ≤ length queue
   pub entries : (k : ℕ) → k < length queue → IsEntry n (entry_at queue k)
 
 -- F5 applies to an entry, from one place on

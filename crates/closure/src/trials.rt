@@ -73,15 +73,12 @@ fn clashes_at(growth: &Growth, labels: &Labels, entry: Entry) -> bool
 
 // Whether such an entry is in the queue, from one place on.
 fn clash_queued(growth: &Growth, labels: &Labels, from: usize) -> bool
-    requires { Sought growth.now.n growth.now.cells.now growth.now.queue.now.items }
+    requires { Sought growth.now.n growth.now.cells.now growth.now.queue.now.items from }
     ensures { QueueTold growth.now.n growth.now.cells.now labels.now.spreads growth.now.queue.now.items from result }
 {
-    for k in from..growth.queue.len() {
-        if clashes_at(growth, labels, growth.queue[k]) {
-            return true;
-        }
-    }
-    false
+    growth.queue[from..]
+        .iter()
+        .any(|entry| clashes_at(growth, labels, *entry))
 }
 
 // Whether a fact on trial clashes, tried in a copy of the closed table.

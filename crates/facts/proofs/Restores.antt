@@ -1,11 +1,10 @@
 -- The way back to a table, entry by entry.
-use Prim.Native.Nat.{ℕ, ◌+◌, ◌-◌, ◌<◌, ◌≤◌}
-use lib.ListN.{length, take, drop, length-take, length-drop}
+use Prim.Native.Nat.{ℕ, ◌+◌, ◌<◌, ◌≤◌}
+use lib.ListN.{length}
 use mathlib.Core.List.{List}
 use mathlib.Core.Logic.{◌⊎◌, inl, inr, ⊎_elim}
 use mathlib.Core.Path.{◌≡◌, sym, ap, subst, ◌∙◌}
 use native.Mathlib.Omega.{arith}
-use Rattle.std.proofs.lemmas.List.{get_or-take, get_or-drop}
 use Rattle.rules.specs.declared.kinds.Kind.{Kind}
 use Rattle.rules.specs.Facts.{Holds}
 use Rattle.rules.specs.Tables.{says, cell_at, facts}
@@ -13,8 +12,8 @@ use Rattle.rules.proofs.Logic.{same_tests}
 use Rattle.rules.proofs.Tables.{fact_row, fact_column, fact_said, same_facts}
 use Rattle.table.specs.Cells.{Cell, with_cell}
 use Rattle.table.specs.declared.queue.Entry.{Entry}
-use Rattle.table.specs.Queue.{no_entry, entry_at, Queued, State, state}
-use Rattle.table.proofs.Entries.{first_or_later}
+use Rattle.table.specs.Queue.{entry_at, Queued, State, state}
+use Rattle.table.proofs.Entries.{first_or_later, entries_from, none_left, is_left, entry_left}
 use Rattle.table.proofs.Stores.{store_there, store_elsewhere, there_or, store_shape}
 use Rattle.facts.specs.Restoring.{Restoring}
 
@@ -99,47 +98,32 @@ module _ {n : ℕ} {other : List ℕ} {s : State} {from : ℕ} (restoring : Rest
             queued = still_queued;
           }
 
--- the entries that are read one after another: those of the queue from a place on
-abbrev behind : ℕ → List Entry → List Entry
-behind from queue = take (length queue - from) (drop from queue)
-
-entry_behind : (from k : ℕ) (queue : List Entry) → k < length (behind from queue)
-    → entry_at (behind from queue) k ≡ entry_at queue (from + k)
-entry_behind from k queue h =
-    get_or-take (length queue - from) (drop from queue) k no_entry
-    (omega (arith, length-take (length queue - from) (drop from queue), h))
-    ∙ get_or-drop from queue k no_entry
-
+-- the same, where the entries from a place on are read one after another
 module _ {n : ℕ} {other t : List ℕ} {queue items : List Entry} (from : ℕ) (read : items ≡ queue) where
   pub restore_start : Restoring n other (state t queue) from → Restoring n other (state t queue) (from + 0)
   restore_start restoring = subst (λ k. Restoring n other (state t queue) k) (omega arith) restoring
 
   module _ {k : ℕ} (restoring : Restoring n other (state t queue) (from + k)) where
-    pub restore_end : length (behind from items) ≤ k → t ≡ other
-    restore_end h = restored restoring (omega (arith, length-take (length items - from) (drop from items), length-drop from items, ap length read, h))
+    pub restore_end : length (entries_from from items) ≤ k → t ≡ other
+    restore_end h = restored restoring (none_left from k read h)
 
     -- one entry, whose variables were read as numbers
-    module _ (h : k < length (behind from items)) {x y : ℕ}
-        (first : x ≡ (entry_at (behind from items) k).first.0)
-        (second : y ≡ (entry_at (behind from items) k).second.0) where
-      ahead : from + k < length queue
-      ahead = omega (arith, length-take (length items - from) (drop from items), length-drop from items, ap length read, h)
-
-      is_entry : entry_at (behind from items) k ≡ entry_at queue (from + k)
-      is_entry = entry_behind from k items h ∙ ap (λ q. entry_at q (from + k)) read
-
+    module _ (h : k < length (entries_from from items)) {x y : ℕ}
+        (first : x ≡ (entry_at (entries_from from items) k).first.0)
+        (second : y ≡ (entry_at (entries_from from items) k).second.0) where
       pub restore_cell : Cell n t x y
       restore_cell =
-          let pair = restoring.entries (from + k) ahead in
+          let pair = restoring.entries (from + k) (is_left from k read h) in
           record {
             few = restoring.few;
             size = restoring.grown.size;
-            row = rw (first, is_entry) pair.first;
-            column = rw (second, is_entry) pair.second;
+            row = rw (first, entry_left from k read h) pair.first;
+            column = rw (second, entry_left from k read h) pair.second;
           }
 
-      pub restore_more : {m : ℕ} {t' : List ℕ} {cell : ℕ} → m ≡ n → cell ≡ cell_at m other x y → t' ≡ with_cell n t x y cell
-          → Restoring n other (state t' queue) (from + (k + 1))
+      pub restore_more : {m : ℕ} {t' : List ℕ} {cell : ℕ} → m ≡ n → cell ≡ cell_at m other x y
+          → t' ≡ with_cell n t x y cell → Restoring n other (state t' queue) (from + (k + 1))
       restore_more {t' = t'} same looked stored =
           subst (λ k. Restoring n other (state t' queue) k) (omega arith)
-          (restore_next restoring ahead t' (rw (← is_entry, ← first, ← second, ← rw same at looked) stored))
+          (restore_next restoring (is_left from k read h) t'
+          (rw (← entry_left from k read h, ← first, ← second, ← rw same at looked) stored))

@@ -1,10 +1,11 @@
 -- Entries of the queue: between wider bounds, in a queue that has the same there, and one more behind the others.
-use Prim.Native.Nat.{ℕ, ◌+◌, ◌<◌, ◌≤◌}
-use lib.ListN.{length, length-append, get_or-append}
+use Prim.Native.Nat.{ℕ, ◌+◌, ◌-◌, ◌<◌, ◌≤◌}
+use lib.ListN.{length, take, drop, length-take, length-drop, length-append, get_or-append}
 use lib.Seq.{get_or-append-add}
 use mathlib.Core.List.{List, [], ◌∷◌, ◌++◌}
 use mathlib.Core.Path.{◌≡◌, sym, ap, ◌∙◌}
 use native.Mathlib.Omega.{arith}
+use Rattle.std.proofs.lemmas.List.{get_or-take, get_or-drop}
 use Rattle.fields.specs.Tests.{same}
 use Rattle.fields.proofs.Choice.{same_true, same_false}
 use Rattle.rules.proofs.Logic.{decided}
@@ -81,3 +82,31 @@ module _ (queue : List Entry) (x y : ℕ) where
         first = ap (λ p. p.first.0) (pushed_there queue (entry x y));
         second = ap (λ p. p.second.0) (pushed_there queue (entry x y));
       }
+
+-- the entries from a place on, as they are read one after another
+abbrev pub entries_from : ℕ → List Entry → List Entry
+entries_from from queue = take (length queue - from) (drop from queue)
+
+module _ (from k : ℕ) {queue items : List Entry} (read : items ≡ queue) where
+  pub none_left : length (entries_from from items) ≤ k → length queue ≤ from + k
+  none_left h =
+      omega
+      (arith, length-take (length items - from) (drop from items), length-drop from items, ap length read, h)
+
+  pub left_of : from + k < length queue → k < length (entries_from from items)
+  left_of h =
+      omega
+      (arith, length-take (length items - from) (drop from items), length-drop from items, ap length read, h)
+
+  module _ (h : k < length (entries_from from items)) where
+    pub is_left : from + k < length queue
+    is_left =
+        omega
+        (arith, length-take (length items - from) (drop from items), length-drop from items, ap length read, h)
+
+    pub entry_left : entry_at (entries_from from items) k ≡ entry_at queue (from + k)
+    entry_left =
+        get_or-take (length items - from) (drop from items) k no_entry
+        (omega (arith, length-take (length items - from) (drop from items), h))
+        ∙ get_or-drop from items k no_entry
+        ∙ ap (λ q. entry_at q (from + k)) read
