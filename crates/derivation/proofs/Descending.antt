@@ -4,6 +4,7 @@ use mathlib.Core.Bool.{true, false}
 use mathlib.Core.List.{List}
 use mathlib.Core.Path.{◌≡◌, refl, sym, ap, subst, ◌∙◌}
 use native.Mathlib.Omega.{arith}
+use Rattle.std.specs.Prelude.{Option, Some, None, MatchOption}
 use Rattle.fields.specs.Tests.{less, same, pick}
 use Rattle.fields.proofs.Choice.{is_same, same_true, less_true, less_false}
 use Rattle.rules.specs.declared.kinds.Kind.{Kind}
@@ -49,6 +50,16 @@ module _ (n : ℕ) (t : List ℕ) (groups : Groups) (w f i k : ℕ) where
       rw (under.told.first, under.told.second)
       (fact_said n t kind i (variable_at groups k) h g
       ∙ has_all kind _ w (shape.cells i (variable_at groups k) h g) small none under.told.told)
+
+-- the first place that is new, as it is found
+module _ (n : ℕ) (t : List ℕ) (groups : Groups) (w f i from end : ℕ) where
+  pub first_new : (r : Option ℕ)
+      → MatchOption r (NoneNew n t groups w f i from end)
+      (λ at. (from ≤ at) × (at < end) × (is_new n t groups w f i at ≡ true) × NoneNew n t groups w f i from at)
+      → MatchOption r (NoneNew n t groups w f i from end) (FirstNew n t groups w f i from end)
+  first_new None none = none
+  first_new (Some at) found =
+      record { behind = found.0; ahead = found.1; found = found.2; passed = found.3 }
 
 -- w is told of i and the child at one place
 told_steps : {n : ℕ} {s s' : State} (groups : Groups) (w f i k x : ℕ) → feature_at groups k ≡ f

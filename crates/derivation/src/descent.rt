@@ -40,12 +40,8 @@ fn seek(
         (NoneNew growth.now.n growth.now.cells.now groups.now w f.0 i places.start places.end)
         (FirstNew growth.now.n growth.now.cells.now groups.now w f.0 i places.start places.end) }
 {
-    for at in places.start..places.end {
-        if is_new(growth, groups, w, f, i, at) {
-            return Some(at);
-        }
-    }
-    None
+    let mut places = places;
+    places.find(|at| is_new(growth, groups, w, f, i, *at))
 }
 
 // Tells w of i and each child of v at f. No `for`: the table that is searched changes with each place that is found.
