@@ -5,6 +5,7 @@ use mathlib.Core.List.{List}
 use mathlib.Core.Path.{◌≡◌, refl, sym, ap, subst, ◌∙◌}
 use native.Mathlib.Omega.{arith}
 use Rattle.std.specs.Prelude.{Option, Some, None, MatchOption}
+use Rattle.std.specs.Bool.{⊤}
 use Rattle.fields.specs.Tests.{less, same, pick}
 use Rattle.fields.proofs.Choice.{is_same, same_true, less_true, less_false}
 use Rattle.rules.specs.declared.kinds.Kind.{Kind}
@@ -60,6 +61,15 @@ module _ (n : ℕ) (t : List ℕ) (groups : Groups) (w f i from end : ℕ) where
   first_new None none = none
   first_new (Some at) found =
       record { behind = found.0; ahead = found.1; found = found.2; passed = found.3 }
+
+-- and the first row with a child to tell of
+module _ (n : ℕ) (t : List ℕ) (groups : Groups) (w first last from end : ℕ) where
+  pub next_row : (r : Option ℕ)
+      → MatchOption r (NoRowNew n t groups w first last from end)
+      (λ at. (from ≤ at) × (at < end) × ⊤ × NoRowNew n t groups w first last from at)
+      → MatchOption r (NoRowNew n t groups w first last from end) (NextRow n t groups w first last from end)
+  next_row None none = none
+  next_row (Some at) found = record { behind = found.0; ahead = found.1; passed = found.3 }
 
 -- w is told of i and the child at one place
 told_steps : {n : ℕ} {s s' : State} (groups : Groups) (w f i k x : ℕ) → feature_at groups k ≡ f

@@ -71,22 +71,12 @@ fn seek_row(
         (NoRowNew growth.now.n growth.now.cells.now groups.now w places.start places.end rows.start rows.end)
         (NextRow growth.now.n growth.now.cells.now groups.now w places.start places.end rows.start rows.end) }
 {
-    for at in rows.start..rows.end {
-        let child = groups.children[at];
-        if seek(
-            growth,
-            groups,
-            w,
-            child.feature,
-            child.variable.index(),
-            places.start..places.end,
-        )
-        .is_some()
-        {
-            return Some(at);
-        }
-    }
-    None
+    let mut rows = rows;
+    rows.find(|at| {
+        let child = groups.children[*at];
+        let i = child.variable.index();
+        seek(growth, groups, w, child.feature, i, places.start..places.end).is_some()
+    })
 }
 
 // Hands w down from u and v. No `for`: as in `tell_all`.
