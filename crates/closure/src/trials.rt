@@ -1,5 +1,6 @@
 // Trials: whether one statement more would clash. The closed table, the growth and the groups are three parameters: what
-// becomes of lent bytes is known for the fields of one struct, not for those of a struct within it.
+// becomes of lent bytes is known for the fields of one struct, not for those of a struct within it. What is on trial comes
+// out of a statement, so its kind, variables or child are parameters of their own.
 ghost use Rattle.std.specs.Prelude.{◌*◌, ◌≡◌};
 ghost use Rattle.rules.specs.Tables.{kind_cell};
 ghost use Rattle.facts.specs.Additions.{Said};

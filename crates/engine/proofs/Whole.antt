@@ -1,6 +1,6 @@
 -- From parts of the lent buffers to the buffers.
 use Rattle.std.specs.Prelude.{Ok, Err}
-use Prim.Native.Nat.{ℕ}
+use Prim.Native.Nat.{ℕ, ◌≤◌}
 use lib.ListN.{length, take, drop, replicate, length-replicate, take-append-drop, length-map}
 use lib.Seq.{length-take-le}
 use mathlib.Core.List.{List, ◌++◌, map}
@@ -49,6 +49,17 @@ module _ (b facts work replies : List ℕ) {a : Accepted}
     (e : judged b (length facts) (length work) (length replies) ≡ Ok a) where
   fits : Fits b (length facts) (length work) (length replies) a
   fits = accepted_fits b (length facts) (length work) (length replies) a e
+
+  -- the parts in use are parts of the buffers
+  module _ (size : ℕ) where
+    pub facts_part : size ≡ table_size a.header → size ≤ length facts
+    facts_part is = rw is fits.facts_fit
+
+    pub work_part : size ≡ table_size a.header → size ≤ length work
+    work_part is = rw is fits.work_fits
+
+    pub replies_part : size ≡ reply_count a.header → size ≤ length replies
+    replies_part is = rw is fits.replies_fit
 
   pub parts_accepted : (size count : ℕ) → size ≡ table_size a.header → count ≡ reply_count a.header
       → Accepting b a (take size facts) (take size work) (take count replies)

@@ -1,4 +1,6 @@
-// The check of a sheet: all facts, and the verdict; on a consistent sheet one reply a question.
+// The check of a sheet: all facts, and the verdict; on a consistent sheet one reply a question. The buffers are parameters
+// one by one, as C lends them: what becomes of lent bytes is known for the fields of one struct, and a growth is one. A
+// sheet's bytes stand beside what was read of them: `Accepted` holds none, so that a user can keep it.
 ghost use Rattle.std.specs.Prelude.{◌≤◌, length, replicate, map, None, ◌≡◌};
 ghost use Rattle.headers.specs.Headers.{size_for};
 ghost use Rattle.sheet.specs.Sheets.{longest, sheet_of};

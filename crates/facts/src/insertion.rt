@@ -13,7 +13,7 @@ use rules::{BOTH, COMPATIBLE, Kind, NOTHING};
 use table::{lacks, says};
 
 impl Growth<'_> {
-    // Whether x is below u and lacks w at v.
+    // Whether x is below u and lacks w at v. Each of the four is another one at each call.
     #[tactic(auto, using(crate::proofs::Inserting::marks))]
     fn mark(&self, w: u8, u: usize, v: usize, x: usize) -> bool
         requires below { Cell self.now.n self.now.cells.now x u }

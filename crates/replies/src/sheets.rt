@@ -1,4 +1,5 @@
-// The answers to all questions of a sheet, in their order.
+// The answers to all questions of a sheet, in their order. Of the six parameters three are what a trial needs, as in crate
+// closure, and three are lent by C: the sheet with what was read of it, and the reply buffer.
 ghost use Rattle.std.specs.Prelude.{map, ◌≡◌};
 ghost use Rattle.sheet.specs.Sheets.{sheet_of};
 ghost use Rattle.rules.specs.Replies.{replies_of, reply_number};
