@@ -4,7 +4,7 @@ ghost use Rattle.rules.specs.Tables.{facts};
 ghost use Rattle.table.specs.Cells.{Cell};
 
 use rules::Kind;
-use table::{Table, says};
+use table::Table;
 
 // Whether a fact of the kind holds of i and j.
 #[tactic(auto, using(rules::proofs::Tables::fact_said))]
@@ -12,5 +12,5 @@ pub fn has_fact(table: &Table<'_>, kind: Kind, i: usize, j: usize) -> bool
     requires { Cell table.now.n table.now.cells.now i j }
     ensures { result ≡ facts table.now.n table.now.cells.now kind i j }
 {
-    says(kind, table.look(i, j))
+    table.look(i, j).says(kind)
 }

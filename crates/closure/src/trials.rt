@@ -19,7 +19,7 @@ use items::Statement;
 use labels::Labels;
 use rules::Kind;
 use selections::{Child, Groups};
-use table::{Entry, push, says};
+use table::{Entry, Kinds, push};
 
 // Adds to a closed table a fact of i and j, and all that follows.
 fn try_fact(growth: &mut Growth, groups: &Groups, kind: Kind, i: usize, j: usize)
@@ -29,7 +29,7 @@ fn try_fact(growth: &mut Growth, groups: &Groups, kind: Kind, i: usize, j: usize
     ensures same { IsSame growth.old growth.new }
 {
     growth.queue.clear();
-    growth.insert(u8::from(kind), i, j);
+    growth.insert(Kinds::from(kind), i, j);
     run(growth, groups);
 }
 
@@ -69,7 +69,7 @@ fn clashes_at(growth: &Growth, labels: &Labels, entry: Entry) -> bool
 {
     let i = entry.first.index();
     let j = entry.second.index();
-    says(Kind::Compatible, growth.look(i, j)) && labels.differ(i, j)
+    growth.look(i, j).says(Kind::Compatible) && labels.differ(i, j)
 }
 
 // Whether such an entry is in the queue, from one place on.

@@ -36,7 +36,7 @@ says_both Kind.Compatible = refl
 
 -- one stated pair, with its variables as they were read
 pub pair_steps : {n m : ℕ} {s s' : State} (pair : Pair) (a b : ℕ) → m ≡ n → a ≡ pair.left.0 → b ≡ pair.right.0
-    → Steps m (Said pair.cell a b) s s' → Steps n (SaidBy pair) s s'
+    → Steps m (Said pair.kinds.0 a b) s s' → Steps n (SaidBy pair) s s'
 pair_steps pair a b same left right steps = rw (← same, ← left, ← right) steps
 
 -- a table of no facts, and a queue without entries

@@ -47,7 +47,7 @@ module _ {pairs pairs' : List Pair} where
   pub both_pairs : {n : ℕ} → Pairs n pairs → Pairs n pairs' → Pairs n (pairs ++ pairs')
   both_pairs a b =
       record {
-        cell_small = below_both (λ (p : Pair). p.cell) no_pair pairs pairs' a.cell_small b.cell_small;
+        cell_small = below_both (λ (p : Pair). p.kinds.0) no_pair pairs pairs' a.cell_small b.cell_small;
         left_below = below_both (λ (p : Pair). p.left.0) no_pair pairs pairs' a.left_below b.left_below;
         right_below = below_both (λ (p : Pair). p.right.0) no_pair pairs pairs' a.right_below b.right_below;
       }

@@ -9,6 +9,7 @@ use Rattle.rules.specs.declared.kinds.Kind.{Kind}
 use Rattle.rules.specs.Facts.{fact}
 use Rattle.rules.specs.Derived.{derived}
 use Rattle.rules.specs.Tables.{facts, Shape}
+use Rattle.table.specs.Cells.{kinds}
 use Rattle.table.specs.Queue.{State, Ready}
 use Rattle.facts.specs.Additions.{Facts, Said, Among, Framed}
 use Rattle.selections.specs.declared.grouped.Groups.{Groups}
@@ -19,7 +20,7 @@ use Rattle.derivation.specs.Settled.{Descends}
 
 -- what a cell says of two variables, and what stands where no pair does
 abbrev pub pair_of : ℕ → ℕ → ℕ → Pair
-pair_of cell i j = record { cell = cell; left = variable i; right = variable j }
+pair_of cell i j = record { kinds = kinds cell; left = variable i; right = variable j }
 
 abbrev pub no_pair : Pair
 no_pair = pair_of 0 0 0
@@ -29,13 +30,13 @@ pair_at pairs k = get_or pairs k no_pair
 
 -- what each cell says of two variables below n
 pub record Pairs (n : ℕ) (pairs : List Pair) : Type 0 where
-  pub cell_small : (k : ℕ) → k < length pairs → (pair_at pairs k).cell < 4
+  pub cell_small : (k : ℕ) → k < length pairs → (pair_at pairs k).kinds.0 < 4
   pub left_below : (k : ℕ) → k < length pairs → (pair_at pairs k).left.0 < n
   pub right_below : (k : ℕ) → k < length pairs → (pair_at pairs k).right.0 < n
 
 -- what a pair says
 abbrev pub SaidBy : Pair → Facts
-SaidBy pair = Said pair.cell pair.left.0 pair.right.0
+SaidBy pair = Said pair.kinds.0 pair.left.0 pair.right.0
 
 -- the facts of a list of pairs
 abbrev pub Paired : List Pair → Facts

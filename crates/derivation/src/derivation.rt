@@ -16,7 +16,7 @@ fn insert_pairs(growth: &mut Growth, pairs: &[Pair])
     ensures same { IsSame growth.old growth.new }
 {
     for pair in pairs {
-        growth.insert(pair.cell, pair.left.index(), pair.right.index());
+        growth.insert(pair.kinds, pair.left.index(), pair.right.index());
     }
 }
 

@@ -11,43 +11,42 @@ ghost use Rattle.derivation.specs.Settled.{Starting, Settled};
 
 use facts::Growth;
 use fields::Feature;
-use rules::NOTHING;
 use selections::Groups;
 use std::ops::Range;
-use table::{Entry, lacks};
+use table::{Entry, Kinds, NEITHER};
 
 // Whether a place has the feature f, and w is not told yet of i and the child there.
 #[tactic(auto, unfolding(crate::specs::Descent::is_new, fields::specs::Tests::pick, fields::specs::Tests::same))]
-fn is_new(growth: &Growth, groups: &Groups, w: u8, f: Feature, i: usize, at: usize) -> bool
+fn is_new(growth: &Growth, groups: &Groups, w: Kinds, f: Feature, i: usize, at: usize) -> bool
     requires { Telling growth.now.n growth.now.cells.now groups.now i at }
-    ensures { result ≡ is_new growth.now.n growth.now.cells.now groups.now w f.0 i at }
+    ensures { result ≡ is_new growth.now.n growth.now.cells.now groups.now w.0 f.0 i at }
 {
     let child = groups.children[at];
-    child.feature == f && lacks(growth.look(i, child.variable.index()), w)
+    child.feature == f && growth.look(i, child.variable.index()).lacks(w)
 }
 
 // The first such place of these.
 fn seek(
     growth: &Growth,
     groups: &Groups,
-    w: u8,
+    w: Kinds,
     f: Feature,
     i: usize,
     places: Range<usize>,
 ) -> Option<usize>
     requires { Seeking growth.now.n growth.now.cells.now groups.now i places.start places.end }
     ensures { MatchOption result
-        (NoneNew growth.now.n growth.now.cells.now groups.now w f.0 i places.start places.end)
-        (FirstNew growth.now.n growth.now.cells.now groups.now w f.0 i places.start places.end) }
+        (NoneNew growth.now.n growth.now.cells.now groups.now w.0 f.0 i places.start places.end)
+        (FirstNew growth.now.n growth.now.cells.now groups.now w.0 f.0 i places.start places.end) }
 {
     let mut places = places;
     places.find(|at| is_new(growth, groups, w, f, i, *at))
 }
 
 // Tells w of i and each child of v at f. No `for`: the table that is searched changes with each place that is found.
-fn tell_all(growth: &mut Growth, groups: &Groups, w: u8, f: Feature, i: usize, v: usize)
-    requires { Handing growth.old.n (state_of growth.old) groups.now w i v }
-    ensures steps { Steps growth.old.n (UnderAll groups.now w f.0 i v) (state_of growth.old) (state_of growth.new) }
+fn tell_all(growth: &mut Growth, groups: &Groups, w: Kinds, f: Feature, i: usize, v: usize)
+    requires { Handing growth.old.n (state_of growth.old) groups.now w.0 i v }
+    ensures steps { Steps growth.old.n (UnderAll groups.now w.0 f.0 i v) (state_of growth.old) (state_of growth.new) }
     ensures same { IsSame growth.old growth.new }
 {
     let group = groups.groups[v];
@@ -62,14 +61,14 @@ fn tell_all(growth: &mut Growth, groups: &Groups, w: u8, f: Feature, i: usize, v
 fn seek_row(
     growth: &Growth,
     groups: &Groups,
-    w: u8,
+    w: Kinds,
     rows: Range<usize>,
     places: Range<usize>,
 ) -> Option<usize>
     requires { SeekingRow growth.now.n growth.now.cells.now groups.now places.start places.end rows.start rows.end }
     ensures { MatchOption result
-        (NoRowNew growth.now.n growth.now.cells.now groups.now w places.start places.end rows.start rows.end)
-        (NextRow growth.now.n growth.now.cells.now groups.now w places.start places.end rows.start rows.end) }
+        (NoRowNew growth.now.n growth.now.cells.now groups.now w.0 places.start places.end rows.start rows.end)
+        (NextRow growth.now.n growth.now.cells.now groups.now w.0 places.start places.end rows.start rows.end) }
 {
     let mut rows = rows;
     rows.find(|at| {
@@ -80,9 +79,9 @@ fn seek_row(
 }
 
 // Hands w down from u and v. No `for`: as in `tell_all`.
-fn hand_down(growth: &mut Growth, groups: &Groups, w: u8, u: usize, v: usize)
-    requires { Handing growth.old.n (state_of growth.old) groups.now w u v }
-    ensures steps { Steps growth.old.n (HandedDown groups.now w u v) (state_of growth.old) (state_of growth.new) }
+fn hand_down(growth: &mut Growth, groups: &Groups, w: Kinds, u: usize, v: usize)
+    requires { Handing growth.old.n (state_of growth.old) groups.now w.0 u v }
+    ensures steps { Steps growth.old.n (HandedDown groups.now w.0 u v) (state_of growth.old) (state_of growth.new) }
     ensures same { IsSame growth.old growth.new }
 {
     let rows = groups.groups[u];
@@ -106,7 +105,7 @@ fn visit(growth: &mut Growth, groups: &Groups, entry: Entry)
     let u = entry.first.index();
     let v = entry.second.index();
     let w = growth.look(u, v);
-    if w != NOTHING {
+    if w != NEITHER {
         hand_down(growth, groups, w, u, v);
     }
 }

@@ -1,10 +1,10 @@
-// A stated pair: what its cell says of two variables.
+// A stated pair: what is said of two variables.
 use fields::Variable;
+use table::Kinds;
 
 #[derive(Clone, Copy, Default)]
 pub struct Pair {
-    // what is said of them, as a cell: it may say both kinds, so it is no Kind
-    pub cell: u8,
+    pub kinds: Kinds,
     pub left: Variable,
     pub right: Variable,
 }

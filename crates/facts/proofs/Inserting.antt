@@ -15,6 +15,7 @@ use Rattle.rules.specs.Tables.{says, cell_at, facts, Shape}
 use Rattle.rules.proofs.Cells.{says_nothing}
 use Rattle.rules.proofs.Logic.{decided, contrary, both, first_of_and}
 use Rattle.rules.proofs.Tables.{fact_row, fact_column, fact_said}
+use Rattle.table.specs.declared.cells.Kinds.{Kinds}
 use Rattle.table.specs.Cells.{is_lacking}
 use Rattle.table.specs.declared.queue.Entry.{Entry}
 use Rattle.table.specs.Queue.{State, state}
@@ -138,7 +139,7 @@ module _ (n : ℕ) (t : List ℕ) (w u v : ℕ) (shape : Shape n t) (framed : Fr
       of false true = omega arith
       of false false = omega arith
 
-  pub row_cells : (row : List ℕ) → Rows n t w v row → Row n row
+  pub row_cells : (row : List Kinds) → Rows n t w v row → Row n row
   row_cells row rows = record { cells = λ y b. rw (rows.cells y b) (taken_small y b) }
 
   -- a variable that is marked is below u, and one below u is marked or has it all
@@ -154,7 +155,7 @@ module _ (n : ℕ) (t : List ℕ) (w u v : ℕ) (shape : Shape n t) (framed : Fr
       decided (is_lacking (cell_at n t x v) w) (λ a. mark (both (says_it Kind.Ordered x u p) a))
       (λ a. there (λ kind q. said kind x v b g (has_all kind _ w (shape.cells x v b g) small a q)))
 
-  module _ (q : List Entry) (s' : State) (column : List Bool) (row : List ℕ) (columns : Columns n t w u v column)
+  module _ (q : List Entry) (s' : State) (column : List Bool) (row : List Kinds) (columns : Columns n t w u v column)
       (rows : Rows n t w v row) (added : Added n (RowsTaken n column row) (state t q) s') where
     -- what is taken is a fact of the new table, on both sides
     taken_at : (kind : Kind) (x y i j : ℕ) → Holds (facts n t) Kind.Ordered x u → y < n → mark_of n t w u v x ≡ true

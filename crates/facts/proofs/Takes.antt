@@ -2,19 +2,20 @@
 use Prim.Native.Nat.{ℕ, ◌+◌, ◌<◌}
 use lib.Bits.{bit_or}
 use lib.ListN.{length}
-use mathlib.Core.Bool.{true}
+use mathlib.Core.Bool.{Bool, true, not}
 use mathlib.Core.List.{List, [], ◌∷◌, ◌++◌}
 use mathlib.Core.Logic.{inl, inr}
 use mathlib.Core.Path.{◌≡◌, sym, ap, subst, ◌∙◌}
 use native.Mathlib.Omega.{arith}
 use Rattle.fields.specs.Tests.{same}
+use Rattle.fields.proofs.Choice.{is_same}
 use Rattle.rules.specs.Connectives.{◌or◌}
 use Rattle.rules.specs.declared.kinds.Kind.{Kind}
 use Rattle.rules.specs.Facts.{Holds, Within}
 use Rattle.rules.specs.Tables.{says, cell_at, facts}
-use Rattle.rules.proofs.Logic.{either_first, either_second, either_of}
+use Rattle.rules.proofs.Logic.{contrary, either_first, either_second, either_of}
 use Rattle.rules.proofs.Tables.{fact_row, fact_column, fact_said}
-use Rattle.table.specs.Cells.{with_cell}
+use Rattle.table.specs.Cells.{with_cell, is_lacking}
 use Rattle.table.specs.declared.queue.Entry.{Entry}
 use Rattle.table.specs.Queue.{entry, Queued, State, state, fact_count, queue_room}
 use Rattle.table.proofs.Entries.{pushed_size, pushed_kept, pushed_entry, pushed_queued}
@@ -23,9 +24,6 @@ use Rattle.facts.specs.Additions.{Said, Added}
 use Rattle.facts.specs.Insertion.{Taking}
 use Rattle.facts.proofs.Joined.{joined_small, joined_says, says_already, gains}
 use Rattle.facts.proofs.Moving.{more_facts, fact_bound}
-
--- what a cell says that has it all
-pub ruleset has_it_all = (says_already, fact_said)
 
 -- what holds of a pair holds of the same pair by other names
 at_pair : (P : ℕ → ℕ → Type 0) {i j x y : ℕ} → i ≡ x → j ≡ y → P x y → P i j
@@ -140,15 +138,17 @@ module _ (n : ℕ) (s : State) (w x y : ℕ) (taking : Taking n s w x y) where
               inl;
         }
 
--- the same, of a cell that was looked at
-module _ (n : ℕ) (s : State) (w x y cell : ℕ) (taking : Taking n s w x y) (e : cell ≡ cell_at n s.table x y) where
-  looked : (bit_or cell w ≡ cell → ⊥) → bit_or (cell_at n s.table x y) w ≡ cell_at n s.table x y → ⊥
-  looked changed same = changed (ap (λ z. bit_or z w) e ∙ same ∙ sym e)
+-- the same, of a cell that was looked at and lacks some of w
+module _ (n : ℕ) (s : State) (w x y cell : ℕ) (taking : Taking n s w x y) (e : cell ≡ cell_at n s.table x y)
+    {lacks : Bool} (asked : lacks ≡ is_lacking cell w) (lacking : lacks ≡ true) where
+  looked : bit_or (cell_at n s.table x y) w ≡ cell_at n s.table x y → ⊥
+  unfolding is_lacking
+  looked none = contrary (rw e at (sym asked ∙ lacking)) (ap not (is_same _ _ none))
 
-  pub take_room : (bit_or cell w ≡ cell → ⊥) → length s.queue < queue_room
-  take_room changed = has_room n s w x y taking (looked changed)
+  pub take_room : length s.queue < queue_room
+  take_room = has_room n s w x y taking looked
 
-  pub take_one : (bit_or cell w ≡ cell → ⊥) → (t : List ℕ) (queue : List Entry)
-      → t ≡ with_cell n s.table x y (bit_or cell w) → queue ≡ s.queue ++ entry x y ∷ []
+  pub take_one : {joined : ℕ} (t : List ℕ) (queue : List Entry) → joined ≡ bit_or cell w
+      → t ≡ with_cell n s.table x y joined → queue ≡ s.queue ++ entry x y ∷ []
       → Added n (Said w x y) s (state t queue)
-  take_one changed t queue p q = rw (p, q, e) (cell_taken n s w x y taking (looked changed))
+  take_one t queue with p q = rw (p, q, with, e) (cell_taken n s w x y taking looked)

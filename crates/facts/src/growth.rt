@@ -7,8 +7,8 @@ ghost use Rattle.facts.specs.Growth.{state_of, with_table, IsSame};
 ghost use Rattle.facts.specs.Insertion.{Taking, TakingRow, TakingRows, Sides, RowTaken, RowsTaken};
 
 use fields::MOST_VARIABLES;
-use rules::{COMPATIBLE, Kind, NOTHING};
-use table::{Queue, Table, push, says, store};
+use rules::Kind;
+use table::{Kinds, NEITHER, Queue, Table, push, store};
 
 // The bytes of a table of n variables, and the pairs whose cells changed.
 #[derive(Drop)]
@@ -31,9 +31,9 @@ impl Growth<'_> {
     }
 
     // The cell of i and j.
-    pub fn look(&self, i: usize, j: usize) -> u8
+    pub fn look(&self, i: usize, j: usize) -> Kinds
         requires { Cell self.now.n self.now.cells.now i j }
-        ensures { result ≡ cell_at self.now.n self.now.cells.now i j }
+        ensures { result.0 ≡ cell_at self.now.n self.now.cells.now i j }
     {
         self.table().look(i, j)
     }
@@ -54,37 +54,36 @@ impl Growth<'_> {
     }
 
     // Adds what w says to the cell of x and y.
-    #[tactic(auto, using(crate::proofs::Takes::has_it_all))]
-    pub(crate) fn take_cell(&mut self, w: u8, x: usize, y: usize)
-        requires { Taking self.old.n (state_of self.old) w x y }
-        ensures added { Added self.old.n (Said w x y) (state_of self.old) (state_of self.new) }
+    #[tactic(auto, using(crate::proofs::Inserting::lacking))]
+    pub(crate) fn take_cell(&mut self, w: Kinds, x: usize, y: usize)
+        requires { Taking self.old.n (state_of self.old) w.0 x y }
+        ensures added { Added self.old.n (Said w.0 x y) (state_of self.old) (state_of self.new) }
         ensures same { IsSame self.old self.new }
     {
         let old = self.look(x, y);
-        let new = old | w;
-        if new != old {
-            store(self.cells, self.n, x, y, new);
+        if old.lacks(w) {
+            store(self.cells, self.n, x, y, old.with(w));
             push(self.queue, x, y);
         }
     }
 
     // Adds w at x and y, and ~ on both sides.
     #[tactic(auto, using(table::proofs::Saying::by_number))]
-    fn take_pair(&mut self, w: u8, x: usize, y: usize)
-        requires { Taking self.old.n (state_of self.old) w x y }
-        ensures added { Added self.old.n (Sides w x y) (state_of self.old) (state_of self.new) }
+    fn take_pair(&mut self, w: Kinds, x: usize, y: usize)
+        requires { Taking self.old.n (state_of self.old) w.0 x y }
+        ensures added { Added self.old.n (Sides w.0 x y) (state_of self.old) (state_of self.new) }
         ensures same { IsSame self.old self.new }
     {
-        if w != NOTHING {
+        if w != NEITHER {
             self.take_cell(w, x, y);
         }
-        if says(Kind::Compatible, w) {
-            self.take_cell(COMPATIBLE, y, x);
+        if w.says(Kind::Compatible) {
+            self.take_cell(Kinds::from(Kind::Compatible), y, x);
         }
     }
 
     // x takes a row.
-    fn take_row(&mut self, x: usize, row: &[u8; MOST_VARIABLES])
+    fn take_row(&mut self, x: usize, row: &[Kinds; MOST_VARIABLES])
         requires { TakingRow self.old.n (state_of self.old) row.now x }
         ensures added { Added self.old.n (RowTaken self.old.n row.now x)
             (state_of self.old) (state_of self.new) }
@@ -96,7 +95,7 @@ impl Growth<'_> {
     }
 
     // Each variable that the column marks takes the row.
-    pub(crate) fn take_rows(&mut self, column: &[bool; MOST_VARIABLES], row: &[u8; MOST_VARIABLES])
+    pub(crate) fn take_rows(&mut self, column: &[bool; MOST_VARIABLES], row: &[Kinds; MOST_VARIABLES])
         requires { TakingRows self.old.n (state_of self.old) row.now }
         ensures added { Added self.old.n (RowsTaken self.old.n column.now row.now)
             (state_of self.old) (state_of self.new) }

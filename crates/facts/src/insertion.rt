@@ -9,24 +9,24 @@ ghost use Rattle.facts.specs.Insertion.{mark_of, cell_taken_at, Columns, Rows, L
 
 use crate::growth::Growth;
 use fields::MOST_VARIABLES;
-use rules::{BOTH, COMPATIBLE, Kind, NOTHING};
-use table::{lacks, says};
+use rules::Kind;
+use table::{BOTH, Kinds, NEITHER};
 
 impl Growth<'_> {
     // Whether x is below u and lacks w at v. Each of the four is another one at each call.
     #[tactic(auto, using(crate::proofs::Inserting::marks))]
-    fn mark(&self, w: u8, u: usize, v: usize, x: usize) -> bool
+    fn mark(&self, w: Kinds, u: usize, v: usize, x: usize) -> bool
         requires below { Cell self.now.n self.now.cells.now x u }
         requires lacking { Cell self.now.n self.now.cells.now x v }
-        ensures { result ≡ mark_of self.now.n self.now.cells.now w u v x }
+        ensures { result ≡ mark_of self.now.n self.now.cells.now w.0 u v x }
     {
-        says(Kind::Ordered, self.look(x, u)) && lacks(self.look(x, v), w)
+        self.look(x, u).says(Kind::Ordered) && self.look(x, v).lacks(w)
     }
 
     // Marks what is below u and lacks w at v.
-    fn read_column(&self, w: u8, u: usize, v: usize) -> [bool; MOST_VARIABLES]
+    fn read_column(&self, w: Kinds, u: usize, v: usize) -> [bool; MOST_VARIABLES]
         requires { Looking self.now.n self.now.cells.now u v }
-        ensures { Columns self.now.n self.now.cells.now w u v result }
+        ensures { Columns self.now.n self.now.cells.now w.0 u v result }
     {
         let mut column = [false; MOST_VARIABLES];
         for x in 0..self.n {
@@ -37,26 +37,26 @@ impl Growth<'_> {
 
     // The cell at y that is taken by what is below a variable, once w holds of it and v.
     #[tactic(auto, unfolding(crate::specs::Insertion::cell_taken_at, fields::specs::Tests::pick))]
-    fn taken(&self, w: u8, v: usize, y: usize) -> u8
+    fn taken(&self, w: Kinds, v: usize, y: usize) -> Kinds
         requires along { Cell self.now.n self.now.cells.now v y }
         requires back { Cell self.now.n self.now.cells.now y v }
-        ensures { result ≡ cell_taken_at self.now.n self.now.cells.now w v y }
+        ensures { result.0 ≡ cell_taken_at self.now.n self.now.cells.now w.0 v y }
     {
-        if says(Kind::Ordered, w) {
+        if w.says(Kind::Ordered) {
             self.look(v, y)
-        } else if says(Kind::Ordered, self.look(y, v)) {
-            COMPATIBLE
+        } else if self.look(y, v).says(Kind::Ordered) {
+            Kinds::from(Kind::Compatible)
         } else {
-            NOTHING
+            NEITHER
         }
     }
 
     // The row that is taken so.
-    fn read_row(&self, w: u8, v: usize) -> [u8; MOST_VARIABLES]
+    fn read_row(&self, w: Kinds, v: usize) -> [Kinds; MOST_VARIABLES]
         requires { Looking self.now.n self.now.cells.now v v }
-        ensures { Rows self.now.n self.now.cells.now w v result }
+        ensures { Rows self.now.n self.now.cells.now w.0 v result }
     {
-        let mut row = [0; MOST_VARIABLES];
+        let mut row = [NEITHER; MOST_VARIABLES];
         for y in 0..self.n {
             row[y] = self.taken(w, v, y);
         }
@@ -65,10 +65,10 @@ impl Growth<'_> {
 
     // Adds a new fact: what w says of u and v, and all that F1 and F3 then give.
     #[tactic(auto, using(crate::proofs::Inserting::row_cells))]
-    fn insert_new(&mut self, w: u8, u: usize, v: usize)
-        requires inserting { Inserting self.old.n (state_of self.old) w u v }
-        requires some { 0 < w }
-        ensures steps { Steps self.old.n (Said w u v) (state_of self.old) (state_of self.new) }
+    fn insert_new(&mut self, w: Kinds, u: usize, v: usize)
+        requires inserting { Inserting self.old.n (state_of self.old) w.0 u v }
+        requires some { 0 < w.0 }
+        ensures steps { Steps self.old.n (Said w.0 u v) (state_of self.old) (state_of self.new) }
         ensures same { IsSame self.old self.new }
     {
         let column = self.read_column(w, u, v);
@@ -78,12 +78,12 @@ impl Growth<'_> {
 
     // Adds what w says of u and v, with all that F1 and F3 then give, if it is not there already.
     #[tactic(auto, using(crate::proofs::Inserting::lacking))]
-    pub fn insert(&mut self, w: u8, u: usize, v: usize)
-        requires { Inserting self.old.n (state_of self.old) w u v }
-        ensures steps { Steps self.old.n (Said w u v) (state_of self.old) (state_of self.new) }
+    pub fn insert(&mut self, w: Kinds, u: usize, v: usize)
+        requires { Inserting self.old.n (state_of self.old) w.0 u v }
+        ensures steps { Steps self.old.n (Said w.0 u v) (state_of self.old) (state_of self.new) }
         ensures same { IsSame self.old self.new }
     {
-        if lacks(self.look(u, v), w) {
+        if self.look(u, v).lacks(w) {
             self.insert_new(w, u, v);
         }
     }

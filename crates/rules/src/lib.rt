@@ -8,6 +8,6 @@ mod replies;
 mod verdicts;
 
 pub use clashes::Clash;
-pub use kinds::{BOTH, COMPATIBLE, Kind, NOTHING, ORDERED};
+pub use kinds::Kind;
 pub use replies::{NoReply, Reply};
 pub use verdicts::Verdict;

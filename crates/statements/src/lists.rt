@@ -14,6 +14,7 @@ use items::{Item, Statement};
 use labels::Labels;
 use rules::Kind;
 use selections::Selection;
+use table::Kinds;
 
 // As many pairs as records can state: two each.
 pub const PAIRS: usize = 2 * MOST_ITEMS;
@@ -49,7 +50,7 @@ impl Lists {
         ensures { self.new ≡ with_pair self.old (kind_cell kind) left.0 right.0 }
     {
         self.pairs.push(Pair {
-            cell: u8::from(kind),
+            kinds: Kinds::from(kind),
             left,
             right,
         });

@@ -3,6 +3,11 @@ use Rattle.std.specs.Prelude.{ℕ, ◌+◌, ◌*◌, ◌<◌, ◌≤◌, length,
 use Rattle.std.specs.Int.Bits.{bit_or}
 use Rattle.fields.specs.Limits.{most_variables}
 use Rattle.fields.specs.Tests.{same}
+use Rattle.table.specs.declared.cells.Kinds.{Kinds}
+
+-- a cell of this number
+abbrev pub kinds : ℕ → Kinds
+kinds k = record { 0 = k }
 
 -- t is a table for n variables, and has a cell for i and j
 pub record Cell (n : ℕ) (t : List ℕ) (i j : ℕ) : Type 0 where

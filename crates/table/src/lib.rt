@@ -5,6 +5,6 @@ mod cells;
 mod queue;
 mod table;
 
-pub use cells::{lacks, says};
+pub use cells::{BOTH, Kinds, NEITHER};
 pub use queue::{Entry, Queue, ROOM, push};
 pub use table::{Table, store};

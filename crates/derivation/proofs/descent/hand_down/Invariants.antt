@@ -7,7 +7,7 @@ use Rattle.derivation.proofs.descent.hand_down.Given as goal
 abbrev pub invariant-loop-at : goal.invariant-loop-at
 invariant-loop-at l =
     record {
-      handed : HandedUpto l.fn.growth.n l.groups l.w l.u l.v (state_of l.fn.growth) (state_of l.growth) l.from;
+      handed : HandedUpto l.fn.growth.n l.groups l.w.0 l.u l.v (state_of l.fn.growth) (state_of l.growth) l.from;
       same : IsSame l.fn.growth l.growth;
     }
 

@@ -7,7 +7,7 @@ use Rattle.derivation.proofs.descent.tell_all.Given as goal
 abbrev pub invariant-loop-at : goal.invariant-loop-at
 invariant-loop-at l =
     record {
-      told : ToldUpto l.fn.growth.n l.groups l.w l.f.0 l.i l.v (state_of l.fn.growth) (state_of l.growth) l.from;
+      told : ToldUpto l.fn.growth.n l.groups l.w.0 l.f.0 l.i l.v (state_of l.fn.growth) (state_of l.growth) l.from;
       same : IsSame l.fn.growth l.growth;
     }
 

@@ -9,5 +9,5 @@ invariant-loop-x l =
     record {
       size : length l.column ≡ most_variables;
       marked : (k : ℕ) → k < l.x
-          → get_or l.column k false ≡ mark_of l.self.n l.self.cells.now l.w l.u l.v k;
+          → get_or l.column k false ≡ mark_of l.self.n l.self.cells.now l.w.0 l.u l.v k;
     }
