@@ -66,41 +66,29 @@ selection_states {n} i f j stand =
       only = λ kind x y p. absurd p;
     }
 
--- a statement whose variables were read as numbers
-read_fact : {q : Statement} (kind : Kind) {i j x y : ℕ} → q ≡ fact kind i j → x ≡ i → y ≡ j → q ≡ fact kind x y
-read_fact {q} kind e g h = rw (g, h) e
-
-read_selection : {q : Statement} {i : Variable} {f : Feature} {j : Variable} {x : ℕ} → q ≡ Statement.Selection i f j
-    → x ≡ i.0 → q ≡ selection x f.0 j.0
-read_selection {f = f} {j = j} e g = e ∙ ap (λ k. selection k f.0 j.0) (sym g)
-
+-- a statement whose variable was read as a number
 read_label : {q : Statement} {i : Variable} {a : Label} {x : ℕ} → q ≡ Statement.Labelling i a → x ≡ i.0
     → q ≡ labelling x a.0
 read_label {a = a} e g = e ∙ ap (λ k. labelling k a.0) (sym g)
 
 -- what each kind tells, of statements that stand in the arrays and do not clash
 module _ {n : ℕ} {closed : List ℕ} {groups : Groups} {spreads : List Spread} where
-  pub fact_told : {r : Bool} (kind : Kind) (i j x y : ℕ) (q : Statement) → q ≡ fact kind i j → x ≡ i → y ≡ j
-      → Names n q
-      → Searched n (Grouped groups) (Said (kind_cell kind) x y) closed spreads r
+  pub fact_told : {r : Bool} (kind : Kind) (i j : ℕ) (q : Statement) → q ≡ fact kind i j → Names n q
+      → Searched n (Grouped groups) (Said (kind_cell kind) i j) closed spreads r
       → Tried n (Consistent n closed groups spreads) q r
-  fact_told kind i j x y q d g h names searched =
-      let e = read_fact kind d g h in
+  fact_told kind i j q e names searched =
       rw e (record {
         answer = λ st consistent.
-            tried_answer consistent (rw e at names) (fact_states kind x y consistent.stands.selections) searched;
+            tried_answer consistent (rw e at names) (fact_states kind i j consistent.stands.selections) searched;
       })
 
-  pub selection_told : {r : Bool} {i : Variable} {f : Feature} {j : Variable} (x : ℕ) (q : Statement)
-      → q ≡ Statement.Selection i f j → x ≡ i.0 → Names n q
-      → Searched n (WithOne (Grouped groups) x f.0 j.0) Nothing closed spreads r
+  pub selection_told : {r : Bool} (i f j : ℕ) (q : Statement) → q ≡ selection i f j → Names n q
+      → Searched n (WithOne (Grouped groups) i f j) Nothing closed spreads r
       → Tried n (Consistent n closed groups spreads) q r
-  selection_told {r} {i} {f} {j} x q d g names searched =
-      let e = read_selection d g in
+  selection_told i f j q e names searched =
       rw e (record {
         answer = λ st consistent.
-            tried_answer consistent (rw e at names) (selection_states x f.0 j.0 consistent.stands.selections)
-            searched;
+            tried_answer consistent (rw e at names) (selection_states i f j consistent.stands.selections) searched;
       })
 
   pub label_told : {m : ℕ} {r : Bool} {i : Variable} {a : Label} (x : ℕ) (q : Statement) → m ≡ n

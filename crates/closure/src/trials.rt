@@ -15,6 +15,7 @@ use crate::closed::Closed;
 use answers::label_clashes;
 use derivation::run;
 use facts::Growth;
+use fields::Variable;
 use items::Statement;
 use labels::Labels;
 use rules::Kind;
@@ -88,17 +89,17 @@ fn fact_clashes(
     growth: &mut Growth,
     groups: &Groups,
     kind: Kind,
-    i: usize,
-    j: usize,
+    i: Variable,
+    j: Variable,
 ) -> bool
-    requires trying { TryingFact growth.old.n growth.old.cells.now groups.now i j }
+    requires trying { TryingFact growth.old.n growth.old.cells.now groups.now i.0 j.0 }
     requires sizes { variables_of closed.now ≡ growth.old.n }
     requires copied { growth.old.cells.now ≡ table_of closed.now }
-    ensures searched { Searched growth.old.n (Grouped groups.now) (Said (kind_cell kind) i j)
+    ensures searched { Searched growth.old.n (Grouped groups.now) (Said (kind_cell kind) i.0 j.0)
         (table_of closed.now) (spreads_of closed.now) result }
     ensures restored { Restored growth.old growth.new groups.now groups.now }
 {
-    try_fact(growth, groups, kind, i, j);
+    try_fact(growth, groups, kind, i.index(), j.index());
     let found = clash_queued(growth, closed.labels, 0);
     growth.restore(closed.table, 0);
     found
@@ -109,18 +110,18 @@ fn selection_clashes(
     closed: &Closed,
     growth: &mut Growth,
     groups: &mut Groups,
-    i: usize,
+    i: Variable,
     child: Child,
 ) -> bool
-    requires trying { TryingSelection growth.old.n growth.old.cells.now groups.old i child.variable.0 }
+    requires trying { TryingSelection growth.old.n growth.old.cells.now groups.old i.0 child.variable.0 }
     requires sizes { variables_of closed.now ≡ growth.old.n }
     requires copied { growth.old.cells.now ≡ table_of closed.now }
     ensures searched { Searched growth.old.n
-        (WithOne (Grouped groups.old) i child.feature.0 child.variable.0)
+        (WithOne (Grouped groups.old) i.0 child.feature.0 child.variable.0)
         Nothing (table_of closed.now) (spreads_of closed.now) result }
     ensures restored { Restored growth.old growth.new groups.old groups.new }
 {
-    try_selection(growth, groups, i, child);
+    try_selection(growth, groups, i.index(), child);
     let from = 2 * growth.n;
     let found = clash_queued(growth, closed.labels, from);
     growth.restore(closed.table, from);
@@ -136,20 +137,12 @@ fn try_statement(closed: &Closed, growth: &mut Growth, groups: &mut Groups, q: S
     ensures restored { Restored growth.old growth.new groups.old groups.new }
 {
     match q {
-        Statement::Ordering(i, j) => {
-            fact_clashes(closed, growth, groups, Kind::Ordered, i.index(), j.index())
-        }
+        Statement::Ordering(i, j) => fact_clashes(closed, growth, groups, Kind::Ordered, i, j),
         Statement::Compatibility(i, j) => {
-            fact_clashes(closed, growth, groups, Kind::Compatible, i.index(), j.index())
+            fact_clashes(closed, growth, groups, Kind::Compatible, i, j)
         }
         Statement::Selection(i, feature, variable) => {
-            selection_clashes(
-                closed,
-                growth,
-                groups,
-                i.index(),
-                Child { feature, variable },
-            )
+            selection_clashes(closed, growth, groups, i, Child { feature, variable })
         }
         Statement::Labelling(i, a) => label_clashes(closed.table, closed.labels, i.index(), a),
     }

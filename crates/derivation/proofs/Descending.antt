@@ -110,12 +110,6 @@ module _ {n : ℕ} {s s' : State} {groups : Groups} {w u v : ℕ}
       (lawful.below v all.at handing.second all.behind all.ahead)
       (none x h g all.at all.behind all.ahead) kind a b all.holds
 
-handed_steps : {n : ℕ} {s s' : State} (groups : Groups) (w f v x k : ℕ)
-    → x ≡ variable_at groups k → Steps n (UnderAll groups w f x v) s s'
-    → Steps n (UnderAll groups w f (variable_at groups k) v) s s'
-handed_steps {n} {s} {s'} groups w f v x k e steps =
-    subst (λ y. Steps n (UnderAll groups w f y v) s s') e steps
-
 -- an entry of the queue, whose variables were taken from it
 module _ {n : ℕ} {s : State} {groups : Groups} {entry : Entry}
     (visiting : Visiting n s groups entry) (u v : ℕ)
@@ -228,19 +222,18 @@ module _ {n : ℕ} {s : State} {groups : Groups} {w u v : ℕ} (handing : Handin
         }
 
     -- and one row more
-    pub handed_next : {m : ℕ} {s'' : State} (at x : ℕ) → m ≡ n
+    pub handed_next : {m : ℕ} {s'' : State} (at : ℕ) → m ≡ n
         → NextRow m s'.table groups w (start_at groups v) (end_at groups v) k (end_at groups u) at
-        → x ≡ variable_at groups at → Steps m (UnderAll groups w (feature_at groups at) x v) s' s''
+        → Steps m (UnderAll groups w (feature_at groups at) (variable_at groups at) v) s' s''
         → HandedUpto n groups w u v s s'' (at + 1)
-    handed_next {s'' = s''} at x same found e told =
+    handed_next {s'' = s''} at same found told =
         let row = to_size (λ z. NextRow z s'.table groups w (start_at groups v) (end_at groups v) k (end_at groups u) at) same found in
-        let steps = to_size (λ z. Steps z (UnderAll groups w (feature_at groups at) x v) s' s'') same told in
+        let row_told = UnderAll groups w (feature_at groups at) (variable_at groups at) v in
+        let steps = to_size (λ z. Steps z row_told s' s'') same told in
         let before = handed_pass at row.behind (omega (arith, row.ahead)) row.passed in
         record {
           along = along_next before.along row.ahead;
-          steps =
-              steps_next _ _ at before.along.behind before.steps
-              (handed_steps groups w (feature_at groups at) v x at e steps);
+          steps = steps_next _ _ at before.along.behind before.steps steps;
         }
 
     -- no row is left
@@ -281,12 +274,12 @@ module _ {n : ℕ} {s : State} {groups : Groups} {w i v : ℕ} (handing : Handin
         }
 
     -- and one child more
-    pub told_next : {m : ℕ} {s'' : State} (at x : ℕ) → m ≡ n
-        → FirstNew m s'.table groups w f i k (end_at groups v) at → x ≡ variable_at groups at
-        → Steps m (Said w i x) s' s'' → ToldUpto n groups w f i v s s'' (at + 1)
-    told_next {s'' = s''} at x same found e told =
+    pub told_next : {m : ℕ} {s'' : State} (at a x : ℕ) → m ≡ n
+        → FirstNew m s'.table groups w f i k (end_at groups v) at → a ≡ i → x ≡ variable_at groups at
+        → Steps m (Said w a x) s' s'' → ToldUpto n groups w f i v s s'' (at + 1)
+    told_next {s'' = s''} at a x same found first e told =
         let place = to_size (λ z. FirstNew z s'.table groups w f i k (end_at groups v) at) same found in
-        let steps = to_size (λ z. Steps z (Said w i x) s' s'') same told in
+        let steps = to_size (λ z. Steps z (Said w i x) s' s'') same (rw first at told) in
         let before = told_pass at place.behind (omega (arith, place.ahead)) place.passed in
         record {
           along = along_next before.along place.ahead;

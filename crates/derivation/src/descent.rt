@@ -10,19 +10,19 @@ ghost use Rattle.derivation.specs.Descent.{Visiting, Visited};
 ghost use Rattle.derivation.specs.Settled.{Starting, Settled};
 
 use facts::Growth;
-use fields::Feature;
-use selections::Groups;
+use selections::{Child, Groups};
 use std::ops::Range;
 use table::{Entry, Kinds, NEITHER};
 
-// Whether a place has the feature f, and w is not told yet of i and the child there.
+// Whether the child at a place has the same feature, and w is not told yet of the two children.
 #[tactic(auto, unfolding(crate::specs::Descent::is_new, fields::specs::Tests::pick, fields::specs::Tests::same))]
-fn is_new(growth: &Growth, groups: &Groups, w: Kinds, f: Feature, i: usize, at: usize) -> bool
-    requires { Telling growth.now.n growth.now.cells.now groups.now i at }
-    ensures { result ≡ is_new growth.now.n growth.now.cells.now groups.now w.0 f.0 i at }
+fn is_new(growth: &Growth, groups: &Groups, w: Kinds, child: Child, at: usize) -> bool
+    requires { Telling growth.now.n growth.now.cells.now groups.now child.variable.0 at }
+    ensures { result ≡ is_new growth.now.n growth.now.cells.now groups.now w.0 child.feature.0 child.variable.0 at }
 {
-    let child = groups.children[at];
-    child.feature == f && growth.look(i, child.variable.index()).lacks(w)
+    let other = groups.children[at];
+    let i = child.variable.index();
+    other.feature == child.feature && growth.look(i, other.variable.index()).lacks(w)
 }
 
 // The first such place of these.
@@ -30,29 +30,35 @@ fn seek(
     growth: &Growth,
     groups: &Groups,
     w: Kinds,
-    f: Feature,
-    i: usize,
+    child: Child,
     places: Range<usize>,
 ) -> Option<usize>
-    requires { Seeking growth.now.n growth.now.cells.now groups.now i places.start places.end }
+    requires { Seeking growth.now.n growth.now.cells.now groups.now child.variable.0 places.start places.end }
     ensures { MatchOption result
-        (NoneNew growth.now.n growth.now.cells.now groups.now w.0 f.0 i places.start places.end)
-        (FirstNew growth.now.n growth.now.cells.now groups.now w.0 f.0 i places.start places.end) }
+        (NoneNew growth.now.n growth.now.cells.now groups.now w.0 child.feature.0 child.variable.0
+        places.start places.end)
+        (FirstNew growth.now.n growth.now.cells.now groups.now w.0 child.feature.0 child.variable.0
+        places.start places.end) }
 {
     let mut places = places;
-    places.find(|at| is_new(growth, groups, w, f, i, *at))
+    places.find(|at| is_new(growth, groups, w, child, *at))
 }
 
-// Tells w of i and each child of v at f. No `for`: the table that is searched changes with each place that is found.
-fn tell_all(growth: &mut Growth, groups: &Groups, w: Kinds, f: Feature, i: usize, v: usize)
-    requires { Handing growth.old.n (state_of growth.old) groups.now w.0 i v }
-    ensures steps { Steps growth.old.n (UnderAll groups.now w.0 f.0 i v) (state_of growth.old) (state_of growth.new) }
+// Tells w of a child and each child of v at the same feature. No `for`: the table that is searched changes with each place that is found.
+fn tell_all(growth: &mut Growth, groups: &Groups, w: Kinds, child: Child, v: usize)
+    requires { Handing growth.old.n (state_of growth.old) groups.now w.0 child.variable.0 v }
+    ensures steps { Steps growth.old.n (UnderAll groups.now w.0 child.feature.0 child.variable.0 v)
+        (state_of growth.old) (state_of growth.new) }
     ensures same { IsSame growth.old growth.new }
 {
     let group = groups.groups[v];
     let mut from = group.start;
-    while let Some(at) = seek(growth, groups, w, f, i, from..group.end) {
-        growth.insert(w, i, groups.children[at].variable.index());
+    while let Some(at) = seek(growth, groups, w, child, from..group.end) {
+        growth.insert(
+            w,
+            child.variable.index(),
+            groups.children[at].variable.index(),
+        );
         from = at + 1;
     }
 }
@@ -73,8 +79,7 @@ fn seek_row(
     let mut rows = rows;
     rows.find(|at| {
         let child = groups.children[*at];
-        let i = child.variable.index();
-        seek(growth, groups, w, child.feature, i, places.start..places.end).is_some()
+        seek(growth, groups, w, child, places.start..places.end).is_some()
     })
 }
 
@@ -88,8 +93,7 @@ fn hand_down(growth: &mut Growth, groups: &Groups, w: Kinds, u: usize, v: usize)
     let others = groups.groups[v];
     let mut from = rows.start;
     while let Some(at) = seek_row(growth, groups, w, from..rows.end, others.start..others.end) {
-        let child = groups.children[at];
-        tell_all(growth, groups, w, child.feature, child.variable.index(), v);
+        tell_all(growth, groups, w, groups.children[at], v);
         from = at + 1;
     }
 }

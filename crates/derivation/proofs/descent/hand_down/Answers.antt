@@ -8,8 +8,7 @@ loop-at-preserved c =
     let so_far = c.loop-at.invariant in
     record {
       handed =
-          handed_next c.requires so_far.handed _ _ so_far.same.n c.in-Some.ensures c.index.ensures
-          c.tell_all.ensures.steps;
+          handed_next c.requires so_far.handed _ so_far.same.n c.in-Some.ensures c.tell_all.ensures.steps;
       same = same_then so_far.same c.tell_all.ensures.same;
     }
 

@@ -8,7 +8,7 @@ use Rattle.derivation.proofs.descent.seek.Goals as goal
 pub returns : goal.returns
 returns c =
     let growth = c.args.growth.now in
-    let new = is_new growth.n growth.cells.now c.args.groups.now c.args.w.0 c.args.f.0 c.args.i in
-    first_new growth.n growth.cells.now c.args.groups.now c.args.w.0 c.args.f.0 c.args.i _ _ c.find.result
+    let new = is_new growth.n growth.cells.now c.args.groups.now c.args.w.0 c.args.child.feature.0 c.args.child.variable.0 in
+    first_new growth.n growth.cells.now c.args.groups.now c.args.w.0 c.args.child.feature.0 c.args.child.variable.0 _ _ c.find.result
     (first_from_Range _ _ _ c.find.result (λ at. new at ≡ true) (λ at. new at ≡ false) c.find.ensures.ran
     (λ x q k. search rules) (λ x q k. search rules))

@@ -8,7 +8,8 @@ loop-at-preserved c =
     let so_far = c.loop-at.invariant in
     record {
       told =
-          told_next c.requires _ so_far.told _ _ so_far.same.n c.in-Some.ensures c.index.ensures c.insert.ensures.steps;
+          told_next c.requires _ so_far.told _ _ _ so_far.same.n c.in-Some.ensures c.index.ensures
+          c.index-in-Some.ensures c.insert.ensures.steps;
       same = same_then so_far.same c.insert.ensures.same;
     }
 

@@ -3,11 +3,12 @@ use Rattle.facts.specs.Growth.{state_of, IsSame}
 use Rattle.derivation.proofs.Descending.{ToldUpto}
 use Rattle.derivation.proofs.descent.tell_all.Given as goal
 
--- the children at f before this place are told of
+-- the children at the feature before this place are told of
 abbrev pub invariant-loop-at : goal.invariant-loop-at
 invariant-loop-at l =
     record {
-      told : ToldUpto l.fn.growth.n l.groups l.w.0 l.f.0 l.i l.v (state_of l.fn.growth) (state_of l.growth) l.from;
+      told : ToldUpto l.fn.growth.n l.groups l.w.0 l.child.feature.0 l.child.variable.0 l.v (state_of l.fn.growth)
+          (state_of l.growth) l.from;
       same : IsSame l.fn.growth l.growth;
     }
 
