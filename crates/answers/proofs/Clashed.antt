@@ -17,7 +17,6 @@ use Rattle.rules.specs.Clashes.{clashes_at, clash_between, clash_in_row, clash_i
 use Rattle.rules.proofs.Logic.{decided, last_or_before}
 use Rattle.labels.specs.declared.spread.Spread.{Spread}
 use Rattle.labels.specs.Spreads.{spread_at, has_any, differ}
-use Rattle.labels.specs.Labels.{LabelsStand}
 use Rattle.labels.proofs.Kept.{none_differ, differ_told}
 use Rattle.answers.specs.Clashes.{RowTold, ClashTold}
 use Rattle.answers.proofs.Logic.{fails_second, second_alike}
