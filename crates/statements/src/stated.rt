@@ -16,6 +16,7 @@ fn label_of(x: Item, i: Variable) -> Option<Label>
 }
 
 // The first label that so many records from a cursor on state for a variable.
+// Five parameters: a struct of them would be made for one call and taken apart in it.
 #[tactic(auto, using(crate::proofs::Labelled::label_from))]
 fn first_label(sheet: &[u8], n: u8, count: u16, from: Cursor, i: Variable) -> Option<Label>
     ensures { label_in result ≡ stated_label (stated_from count sheet.now n from) i.0 }
