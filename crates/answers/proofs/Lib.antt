@@ -1,6 +1,7 @@
 -- Laws of what is told of a closed fact table.
 pub mod Logic
 pub mod Ranges
+pub mod Firsts
 pub mod Clashed
 pub mod OneLabel
 pub mod Shown

@@ -3,7 +3,7 @@
 use Prim.Native.Nat.{ℕ, ◌<◌}
 use mathlib.Core.Bool.{Bool, true, false, ◌&&◌}
 use mathlib.Core.List.{List, [], ◌∷◌, ◌++◌}
-use mathlib.Core.Path.{◌≡◌, refl, sym, ap, subst, ◌∙◌}
+use mathlib.Core.Path.{◌≡◌, sym, ap, subst, ◌∙◌}
 use Rattle.std.specs.List.{list_any, range_with_len}
 use Rattle.items.specs.declared.items.Statement.{Statement}
 use Rattle.items.specs.Statements.{Names, AllName}
@@ -25,6 +25,7 @@ use Rattle.labels.specs.Spreads.{spread_at, has_other}
 use Rattle.labels.specs.Labels.{LabelsStand, NoLabelling, other_stated}
 use Rattle.labels.proofs.Kept.{subject_of, label_of, other_by, other_of, other_told, several_two}
 use Rattle.answers.specs.Supports.{SingleLabels}
+use Rattle.answers.proofs.Logic.{second_alike}
 use Rattle.answers.proofs.Ranges.{any_in_range, same_below}
 
 -- j is alike to i and has a label other than a
@@ -35,17 +36,12 @@ meets r st i a j = r Kind.Compatible i j and other_stated st j a
 abbrev pub met_at : Relation → List Spread → ℕ → ℕ → ℕ → Bool
 met_at r spreads i a j = r Kind.Compatible i j && has_other (spread_at spreads j) a
 
-same_met : (a : Bool) {b c : Bool} → b ≡ c → a && b ≡ a and c
-unfolding ◌and◌
-same_met true e = e
-same_met false e = refl
-
 pub met_sought : {n : ℕ} (r : Relation) {st : List Statement} {spreads : List Spread} → LabelsStand n st spreads
     → (i a : ℕ) → list_any (met_at r spreads i a) (range_with_len 0 n) ≡ any_below n (meets r st i a)
 unfolding meets
 met_sought {n} r {st} {spreads} stand i a =
     any_in_range (met_at r spreads i a) n
-    ∙ same_below n (met_at r spreads i a) _ λ j h. same_met (r Kind.Compatible i j) (other_told (stand.at j h) a)
+    ∙ same_below n (met_at r spreads i a) _ λ j h. second_alike (r Kind.Compatible i j) (other_told (stand.at j h) a)
 
 pub no_label : (kind : Kind) (i j : ℕ) → NoLabelling (fact kind i j)
 no_label Kind.Ordered i j = tt

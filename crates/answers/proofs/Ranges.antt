@@ -5,7 +5,7 @@ use mathlib.Core.Bool.{Bool, true, false, cond}
 use mathlib.Core.List.{List}
 use mathlib.Core.Path.{◌≡◌, refl, sym, ap, ap₂, ◌∙◌}
 use native.Mathlib.Omega.{arith}
-use Rattle.std.specs.List.{list_any, count_by, range_with_len}
+use Rattle.std.specs.List.{list_any, count_by, sum_by, range_with_len}
 use Rattle.std.proofs.lemmas.List.{get_or_default}
 use Rattle.std.proofs.lemmas.List.Folds.{Any-from_list_any, list_any_at}
 use Rattle.std.proofs.lemmas.List.FromFn.{length-range_with_len, get_or-range_with_len, sum_by-map-range_with_len_more}
@@ -13,7 +13,9 @@ use Rattle.std.proofs.lemmas.List.Sums.{count_by-le-length, sum-map}
 use Rattle.fields.specs.Tests.{pick}
 use Rattle.rules.specs.Connectives.{◌or◌}
 use Rattle.rules.specs.Stated.{any_below}
-use Rattle.rules.specs.Tables.{count_passing}
+use Rattle.rules.specs.declared.kinds.Kind.{Kind}
+use Rattle.rules.specs.Facts.{Relation}
+use Rattle.rules.specs.Tables.{count_passing, count_row, count_rows}
 use Rattle.rules.proofs.Logic.{same_tests}
 use Rattle.rules.proofs.Some.{below_by, below_one}
 
@@ -62,3 +64,17 @@ counted test (suc n) =
 
 pub counted_most : (test : ℕ → Bool) (n : ℕ) → count_by test (range_with_len 0 n) ≤ n
 counted_most test n = omega (arith, count_by-le-length test (range_with_len 0 n), length-range_with_len 0 n)
+
+-- the rows below m, each by its count
+pub rows_counted : (m n : ℕ) (r : Relation) (kind : Kind)
+    → sum_by (count_row n r kind) (range_with_len 0 m) ≡ count_rows m n r kind
+unfolding count_rows
+rows_counted zero n r kind = refl
+rows_counted (suc m) n r kind =
+    let row = count_row n r kind in
+    let last : m + 1 ≡ suc m = omega arith in
+    let more : sum_by row (range_with_len 0 (m + 1)) ≡ sum_by row (range_with_len 0 m) + row m =
+    sym (sum-map row (range_with_len 0 (m + 1))) ∙ sum_by-map-range_with_len_more (λ x. x) row 0 m m (omega arith)
+    ∙ ap (λ k. k + row m) (sum-map row (range_with_len 0 m)) in
+    let here = rw last at more in
+    omega (arith, here, rows_counted m n r kind)

@@ -116,27 +116,26 @@ module _ {n : ℕ} {t : List ℕ} {list : List Selection} {spreads : List Spread
     unfolding supported
     by_compatibility is p = record { told = λ st selections labels. rw (is, ← first, ← second) p }
 
-    module _ {f : Feature} (lawful : Selections n list) (is : q ≡ Statement.Selection i f j) where
-      pub by_both : list_any (is_under (facts n t) x f.0 y) list ≡ true
-          → r ≡ list_any (is_over (facts n t) x f.0 y) list → SupportTold n t list spreads q r
-      unfolding supported
-      by_both p e =
-          record {
-            told = λ st selections labels.
-                rw (is, ← first, ← second)
-                (second_decides (sym (under_sought lawful selections (facts n t) x f.0 y) ∙ p)
-                (e ∙ over_sought lawful selections (facts n t) x f.0 y));
-          }
+  module _ {i j : Variable} {f : Feature} (lawful : Selections n list) (is : q ≡ Statement.Selection i f j) where
+    pub by_both : list_any (is_under (facts n t) i.0 f.0 j.0) list ≡ true
+        → r ≡ list_any (is_over (facts n t) i.0 f.0 j.0) list → SupportTold n t list spreads q r
+    unfolding supported
+    by_both p e =
+        record {
+          told = λ st selections labels.
+              rw is
+              (second_decides (sym (under_sought lawful selections (facts n t) i.0 f.0 j.0) ∙ p)
+              (e ∙ over_sought lawful selections (facts n t) i.0 f.0 j.0));
+        }
 
-      pub by_none_under : r ≡ list_any (is_under (facts n t) x f.0 y) list → r ≡ false
-          → SupportTold n t list spreads q r
-      unfolding supported
-      by_none_under e p =
-          record {
-            told = λ st selections labels.
-                rw (is, ← first, ← second)
-                (p ∙ sym (fails_first _ (sym (under_sought lawful selections (facts n t) x f.0 y) ∙ sym e ∙ p)));
-          }
+    pub by_none_under : r ≡ list_any (is_under (facts n t) i.0 f.0 j.0) list → r ≡ false
+        → SupportTold n t list spreads q r
+    unfolding supported
+    by_none_under e p =
+        record {
+          told = λ st selections labels.
+              rw is (p ∙ sym (fails_first _ (sym (under_sought lawful selections (facts n t) i.0 f.0 j.0) ∙ sym e ∙ p)));
+        }
 
   pub by_label : {i : Variable} {a : Label} {x : ℕ} → x ≡ i.0 → q ≡ Statement.Labelling i a
       → LabelTold n t spreads x a.0 r → SupportTold n t list spreads q r

@@ -10,7 +10,7 @@ use rules::{Clash, Kind};
 use table::Table;
 
 // The least column at which row i has a clash.
-#[tactic(auto, using(crate::proofs::Clashed::columns))]
+#[tactic(auto, using(crate::proofs::Clashed::row_unlabelled))]
 fn clash_in_row(table: &Table<'_>, labels: &Labels, i: usize) -> Option<Clash>
     requires { Lent table.now.n table.now.cells.now × (i < table.now.n) }
     ensures { RowTold table.now.n table.now.cells.now labels.now.spreads i result }
@@ -18,30 +18,21 @@ fn clash_in_row(table: &Table<'_>, labels: &Labels, i: usize) -> Option<Clash>
     if !labels.spreads[i].has_any() {
         return None;
     }
-    // columns are narrowed by `as`: they are below 128
-    for j in 0..table.n {
-        if has_fact(table, Kind::Compatible, i, j) && labels.differ(i, j) {
-            return Some(Clash {
-                first: Variable(i as u8),
-                second: Variable(j as u8),
-            });
-        }
-    }
-    None
+    // narrowed by `as`: row and column are below 128
+    (0..table.n)
+        .find(|j| has_fact(table, Kind::Compatible, i, *j) && labels.differ(i, *j))
+        .map(|j| Clash {
+            first: Variable(i as u8),
+            second: Variable(j as u8),
+        })
 }
 
 // The clash at the least row, and there at the least column.
-#[tactic(auto, using(crate::proofs::Clashed::rows))]
 pub fn clash_of(table: &Table<'_>, labels: &Labels) -> Option<Clash>
     requires { Lent table.now.n table.now.cells.now }
     ensures { ClashTold table.now.n table.now.cells.now labels.now.spreads result }
 {
-    for i in 0..table.n {
-        if let Some(clash) = clash_in_row(table, labels, i) {
-            return Some(clash);
-        }
-    }
-    None
+    (0..table.n).find_map(|i| clash_in_row(table, labels, i))
 }
 
 // Whether the label a of i would clash with a label that is stated.

@@ -24,9 +24,5 @@ pub fn count_facts(table: &Table<'_>, kind: Kind) -> usize
     requires { Lent table.now.n table.now.cells.now }
     ensures { result ≡ count_facts table.now.n (facts table.now.n table.now.cells.now) kind }
 {
-    let mut count = 0;
-    for i in 0..table.n {
-        count += count_row(table, kind, i);
-    }
-    count
+    (0..table.n).map(|i| count_row(table, kind, i)).sum()
 }

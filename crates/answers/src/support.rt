@@ -7,35 +7,57 @@ ghost use Rattle.answers.specs.Cells.{Lent};
 ghost use Rattle.answers.specs.Supports.{SingleLabels, IsSelection, is_under, is_over, LabelTold, SupportTold};
 
 use crate::cells::has_fact;
-use fields::{Feature, Label};
+use fields::Label;
 use items::Statement;
 use labels::Labels;
 use rules::Kind;
 use selections::Selection;
 use table::Table;
 
-// Whether the selection is some k[f]m with k ≤ i and j ≤ m.
+// Whether the selection is some k[f]m with k ≤ i and j ≤ m, where i[f]j is asked.
 #[tactic(auto, unfolding(fields::specs::Tests::same))]
-fn is_under(table: &Table<'_>, selection: &Selection, i: usize, f: Feature, j: usize) -> bool
-    requires lent { Lent table.now.n table.now.cells.now × ((i < table.now.n) × (j < table.now.n)) }
-    requires selection { IsSelection table.now.n selection.now }
-    ensures { result ≡ is_under (facts table.now.n table.now.cells.now) i f.0 j selection.now }
+fn is_under(table: &Table<'_>, selection: &Selection, asked: Selection) -> bool
+    requires lent { Lent table.now.n table.now.cells.now }
+    requires selections { IsSelection table.now.n selection.now × IsSelection table.now.n asked }
+    ensures { result
+        ≡ is_under (facts table.now.n table.now.cells.now) asked.subject.0 asked.feature.0 asked.child.0 selection.now }
 {
-    selection.feature == f
-        && has_fact(table, Kind::Ordered, selection.subject.index(), i)
-        && has_fact(table, Kind::Ordered, j, selection.child.index())
+    selection.feature == asked.feature
+        && has_fact(
+            table,
+            Kind::Ordered,
+            selection.subject.index(),
+            asked.subject.index(),
+        )
+        && has_fact(
+            table,
+            Kind::Ordered,
+            asked.child.index(),
+            selection.child.index(),
+        )
 }
 
-// Whether it is some k[f]m with i ≤ k and m ≤ j. The other side: one function of both would be told the side by a flag.
+// Whether it has i ≤ k and m ≤ j. One function that is handed either order by a closure would be no plainer than two.
 #[tactic(auto, unfolding(fields::specs::Tests::same))]
-fn is_over(table: &Table<'_>, selection: &Selection, i: usize, f: Feature, j: usize) -> bool
-    requires lent { Lent table.now.n table.now.cells.now × ((i < table.now.n) × (j < table.now.n)) }
-    requires selection { IsSelection table.now.n selection.now }
-    ensures { result ≡ is_over (facts table.now.n table.now.cells.now) i f.0 j selection.now }
+fn is_over(table: &Table<'_>, selection: &Selection, asked: Selection) -> bool
+    requires lent { Lent table.now.n table.now.cells.now }
+    requires selections { IsSelection table.now.n selection.now × IsSelection table.now.n asked }
+    ensures { result
+        ≡ is_over (facts table.now.n table.now.cells.now) asked.subject.0 asked.feature.0 asked.child.0 selection.now }
 {
-    selection.feature == f
-        && has_fact(table, Kind::Ordered, i, selection.subject.index())
-        && has_fact(table, Kind::Ordered, selection.child.index(), j)
+    selection.feature == asked.feature
+        && has_fact(
+            table,
+            Kind::Ordered,
+            asked.subject.index(),
+            selection.subject.index(),
+        )
+        && has_fact(
+            table,
+            Kind::Ordered,
+            selection.child.index(),
+            asked.child.index(),
+        )
 }
 
 // Whether some k ≤ i has the label a.
@@ -57,14 +79,17 @@ pub fn supports(table: &Table<'_>, list: &[Selection], labels: &Labels, q: State
     match q {
         Statement::Ordering(i, j) => has_fact(table, Kind::Ordered, i.index(), j.index()),
         Statement::Compatibility(i, j) => has_fact(table, Kind::Compatible, i.index(), j.index()),
-        Statement::Selection(i, f, j) => {
-            let subject = i.index();
-            let child = j.index();
+        Statement::Selection(subject, feature, child) => {
+            let asked = Selection {
+                subject,
+                feature,
+                child,
+            };
             list.iter()
-                .any(|selection| is_under(table, selection, subject, f, child))
+                .any(|selection| is_under(table, selection, asked))
                 && list
                     .iter()
-                    .any(|selection| is_over(table, selection, subject, f, child))
+                    .any(|selection| is_over(table, selection, asked))
         }
         Statement::Labelling(i, a) => has_label(table, labels, i.index(), a),
     }

@@ -18,13 +18,7 @@ fn is_answered_always(sheet: &[u8], replies: &[u8], question: u32) -> bool
     let Ok(header) = read_header(sheet) else {
         return false;
     };
-    if header.reply_count() <= k {
-        return false;
-    }
-    if replies.len() <= k {
-        return false;
-    }
-    replies[k] == u8::from(Reply::Always)
+    k < header.reply_count() && replies.get(k) == Some(&u8::from(Reply::Always))
 }
 
 // Whether the test of what a question asks may be left out: the bytes are a sheet that some assignment meets, it has a

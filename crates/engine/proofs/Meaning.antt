@@ -7,7 +7,6 @@ use mathlib.Core.Bool.{true, false}
 use mathlib.Core.List.{List}
 use mathlib.Core.Path.{◌≡◌, refl, ap, ◌∙◌}
 use native.Mathlib.Omega.{arith}
-use Rattle.fields.specs.declared.numbers.Variable.{Variable}
 use Rattle.fields.specs.declared.refusals.Refusal.{Refusal}
 use Rattle.headers.specs.Headers.{size_for}
 use Rattle.items.specs.Questions.{Query}
@@ -15,6 +14,7 @@ use Rattle.items.specs.Statements.{All}
 use Rattle.sheet.specs.declared.whole.Accepted.{Accepted}
 use Rattle.sheet.specs.Sheets.{Sheet, read_sheet, sheet_of}
 use Rattle.sheet.proofs.Theorems.{accepted_sheet, accepted_few}
+use Rattle.rules.specs.declared.clashes.Clash.{Clash}
 use Rattle.rules.specs.declared.verdicts.Verdict.{Verdict}
 use Rattle.rules.specs.Demand.{Demand2}
 use Rattle.rules.specs.Clashes.{clashes}
@@ -101,13 +101,15 @@ module _ {b facts₀ work₀ replies₀ facts' work' replies' : List ℕ} {r : �
     variables_few : (sheet_of b).n < 65536
     variables_few = omega (arith, accepted_few b a sheet_read)
 
-    clash_means : (i j : Variable) → verdict_of (sheet_of b) ≡ Verdict.Clash i j → kind_in r ≡ 1
+    clash_means : (clash : Clash) → verdict_of (sheet_of b) ≡ Verdict.Clash clash → kind_in r ≡ 1
         → Means b facts₀ work₀ replies₀ facts' replies' r
     unfolding clashes
-    clash_means i j is kind =
-        let found = ((sheet_2 b a sheet_read).clash i.0 j.0).0 (between (sheet_of b) i j is) in
+    clash_means clash is kind =
+        let i = clash.first in
+        let j = clash.second in
+        let found = ((sheet_2 b a sheet_read).clash i.0 j.0).0 (between (sheet_of b) clash is) in
         let number : r ≡ packed (Outcome.Clash i j) = rw (accepted_number returned a e, is) refl in
-        let clashes_so : clashes (sheet_of b).stated (sheet_of b).n ≡ true = rw (between (sheet_of b) i j is) refl in
+        let clashes_so : clashes (sheet_of b).stated (sheet_of b).n ≡ true = rw (between (sheet_of b) clash is) refl in
         let few : i.0 < 65536 = omega (arith, found.row, variables_few) in
         let few' : j.0 < 65536 = omega (arith, found.column, variables_few) in
         let first : first_in r ≡ i.0 = rw number (first_is (Outcome.Clash i j) few) in
@@ -143,4 +145,4 @@ module _ {b facts₀ work₀ replies₀ facts' work' replies' : List ℕ} {r : �
   pub means : Means b facts₀ work₀ replies₀ facts' replies' r
   means =
       by_case returned refused_means (λ a e is kind. consistent_means a e is kind)
-      (λ a i j e is kind. clash_means a e i j is kind)
+      (λ a clash e is kind. clash_means a e clash is kind)

@@ -43,7 +43,7 @@ part_written : (verdict : Verdict) (first buffer part : List ℕ) (size : ℕ) �
     → part ++ drop size buffer ≡ where_consistent verdict (over first buffer) buffer
 unfolding where_consistent
 part_written Verdict.Consistent first buffer part size e is = part_over first buffer part size e is
-part_written (Verdict.Clash i j) first buffer part size e is = rw is (take-append-drop size buffer)
+part_written (Verdict.Clash clash) first buffer part size e is = rw is (take-append-drop size buffer)
 
 module _ (b facts work replies : List ℕ) {a : Accepted}
     (e : judged b (length facts) (length work) (length replies) ≡ Ok a) where

@@ -89,7 +89,7 @@ fn answer(
         ≡ where_consistent (verdict_by closed.now.clash) (map reply_number (replies_of (sheet_of sheet.now))) replies.old }
 {
     match Verdict::from(closed.clash) {
-        Verdict::Clash(_, _) => (),
+        Verdict::Clash(_) => (),
         Verdict::Consistent => {
             let mut growth = Growth {
                 cells: work,

@@ -1,10 +1,14 @@
 -- The skip rule: where fewer than two different labels are stated, nothing clashes.
 use borrow.Author.Tests.{not-false}
 use Prim.Native.Nat.{ℕ, zero, suc, ◌<◌, ◌≤◌}
+use lib.ListN.{length, take}
 use mathlib.Core.Bool.{false, not, true≢false}
 use mathlib.Core.List.{List, [], ◌∷◌, ◌++◌}
-use mathlib.Core.Path.{◌≡◌, sym, ap, subst, ◌∙◌}
+use mathlib.Core.Path.{◌≡◌, refl, sym, ap, subst, ◌∙◌}
+use native.Mathlib.Numerals.{add-one}
 use native.Mathlib.Omega.{arith}
+use Rattle.std.specs.List.{fold}
+use Rattle.std.proofs.lemmas.List.Sums.{fold_more}
 use Rattle.fields.specs.declared.numbers.Label.{Label}
 use Rattle.fields.specs.Tests.{same, pick}
 use Rattle.fields.proofs.Choice.{same_true}
@@ -18,7 +22,7 @@ use Rattle.rules.proofs.More.{stated_of}
 use Rattle.rules.proofs.Clashing.{differ_of, clashing}
 use Rattle.labels.specs.declared.spread.Spread.{Spread}
 use Rattle.labels.specs.Labels.{LabelsAt, LabelsStand}
-use Rattle.labels.specs.Spreads.{with_labels, spread_below, can_clash}
+use Rattle.labels.specs.Spreads.{with_labels, spread_at, spread_below, can_clash}
 use Rattle.labels.proofs.Kept.{label_of}
 
 -- every label that st states is b
@@ -65,6 +69,15 @@ module _ (m : ℕ) (st : List Statement) where
   more_means Spread.Nothing at means = first_means at means
   more_means (Spread.One b) at means = one_means b at means
   more_means Spread.Several at means = tt
+
+-- one after another they make what is gathered of all
+pub all_below : (spreads : List Spread) (n : ℕ) → n ≤ length spreads
+    → fold with_labels Spread.Nothing (take n spreads) ≡ spread_below n spreads
+unfolding spread_below
+all_below spreads zero h = refl
+all_below spreads (suc m) h =
+    rw (add-one m) at (fold_more with_labels Spread.Nothing spreads m Spread.Nothing (omega arith))
+    ∙ ap (λ s. with_labels s (spread_at spreads m)) (all_below spreads m (omega arith))
 
 spread_means : {n : ℕ} {st : List Statement} {spreads : List Spread} → LabelsStand n st spreads
     → (m : ℕ) → m ≤ n → Means m st (spread_below m spreads)

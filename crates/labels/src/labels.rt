@@ -9,6 +9,7 @@ use crate::spread::Spread;
 use fields::{Label, MOST_VARIABLES};
 
 // Of each variable: no label is stated, one, or several.
+// Fixed memory, with no heap: how many variables there are is the sheet's n.
 #[derive(Drop)]
 pub struct Labels {
     pub spreads: [Spread; MOST_VARIABLES],
@@ -59,10 +60,8 @@ impl Labels {
         requires { n ≤ most_variables }
         ensures { result ≡ spread_below n self.now.spreads }
     {
-        let mut spread = Spread::Nothing;
-        for i in 0..n {
-            spread = spread.with(self.spreads[i]);
-        }
-        spread
+        self.spreads[..n]
+            .iter()
+            .fold(Spread::Nothing, |all, one| all.with(*one))
     }
 }

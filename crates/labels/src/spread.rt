@@ -69,14 +69,11 @@ impl Spread {
     pub fn with(self, other: Spread) -> Spread
         ensures { result ≡ with_labels self other }
     {
-        match self {
-            Spread::Nothing => other,
-            Spread::One(a) => match other {
-                Spread::Nothing => self,
-                Spread::One(b) => if a == b { self } else { Spread::Several },
-                Spread::Several => Spread::Several,
-            },
-            Spread::Several => Spread::Several,
+        match (self, other) {
+            (Spread::Nothing, _) => other,
+            (_, Spread::Nothing) => self,
+            (Spread::One(a), Spread::One(b)) if a == b => self,
+            _ => Spread::Several,
         }
     }
 

@@ -9,4 +9,4 @@ use Rattle.outcomes.specs.declared.outcomes.Outcome.{Outcome}
 -- by the verdict: how many facts hold of each kind, or the pair that clashes
 abbrev pub outcome_by : ℕ → Relation → Verdict → Outcome
 outcome_by n r Verdict.Consistent = Outcome.Consistent (count_facts n r Kind.Ordered) (count_facts n r Kind.Compatible)
-outcome_by n r (Verdict.Clash i j) = Outcome.Clash i j
+outcome_by n r (Verdict.Clash clash) = Outcome.Clash clash.first clash.second

@@ -16,7 +16,7 @@ pub fn outcome_of(verdict: Verdict, closed: &Table<'_>) -> Outcome
     ensures { result ≡ outcome_by closed.now.n (facts closed.now.n closed.now.cells.now) verdict }
 {
     match verdict {
-        Verdict::Clash(i, j) => Outcome::Clash(i, j),
+        Verdict::Clash(clash) => Outcome::Clash(clash.first, clash.second),
         Verdict::Consistent => {
             // narrowed by `as`: there are 16,384 pairs at most
             let orderings = count_facts(closed, Kind::Ordered);

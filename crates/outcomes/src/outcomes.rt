@@ -4,7 +4,7 @@ ghost use Rattle.outcomes.specs.Outcomes.{pack, packed};
 
 use sheet::{Fault, Variable};
 
-#[derive(Clone, Copy)]
+#[derive(Clone, Copy, Debug, PartialEq, Eq)]
 pub enum Outcome {
     // how many facts i ≤ j, and how many i ~ j
     Consistent(u16, u16),
@@ -22,16 +22,25 @@ fn pack(kind: u8, first: u16, second: u16) -> u64
     u64::from(kind) + (256 * u64::from(first) + 16777216 * u64::from(second))
 }
 
-impl Outcome {
-    // The number that C callers get.
+// The number that C callers get.
+impl From<Outcome> for u64 {
+    ghost from_gives = { λ outcome number. number ≡ packed outcome };
+
     #[tactic(auto, unfolding(crate::specs::Outcomes::packed))]
-    pub fn packed(self) -> u64
-        ensures { result ≡ packed self }
-    {
-        match self {
+    fn from(outcome: Outcome) -> u64 {
+        match outcome {
             Outcome::Consistent(orderings, compatibilities) => pack(0, orderings, compatibilities),
             Outcome::Clash(i, j) => pack(1, u16::from(i.0), u16::from(j.0)),
             Outcome::Refused(fault, at) => pack(2, u16::from(u8::from(fault)), at),
         }
+    }
+}
+
+impl Outcome {
+    // The same, by its name.
+    pub fn packed(self) -> u64
+        ensures { result ≡ packed self }
+    {
+        u64::from(self)
     }
 }

@@ -30,11 +30,11 @@ module _ {b facts work replies facts' work' replies' : List ℕ} {r : ℕ}
   second_cleared kind =
       by_case returned (λ q e k. absurd (omega arith))
       (λ a e is k. rw (returned.buffers.work_is, e, is) (simp length-replicate))
-      (λ a i j e is k. absurd (omega arith))
+      (λ a clash e is k. absurd (omega arith))
 
   -- on a clash it is as it was, and so is the reply buffer
   pub clash_leaves : kind_in r ≡ 1 → (work' ≡ work) × (replies' ≡ replies)
   unfolding where_consistent
   clash_leaves kind =
       by_case returned (λ q e k. absurd (omega arith)) (λ a e is k. absurd (omega arith))
-      (λ a i j e is k. (rw (returned.buffers.work_is, e, is) refl, rw (returned.buffers.replies_are, e, is) refl))
+      (λ a clash e is k. (rw (returned.buffers.work_is, e, is) refl, rw (returned.buffers.replies_are, e, is) refl))

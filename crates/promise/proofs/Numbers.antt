@@ -52,11 +52,11 @@ module _ {b facts work replies facts' work' replies' : List ℕ} {r : ℕ}
       rw (accepted_number returned a e, is)
       (alone (Outcome.Consistent _ _) (omega (arith, size, count_bound s.n facts Kind.Ordered))
       (omega (arith, size, count_bound s.n facts Kind.Compatible))))
-      (λ a i j e is k.
+      (λ a clash e is k.
       let s = sheet_of b in
-      let least = (clash_least s.stated s.n i.0 j.0).0 (between s i j is) in
+      let least = (clash_least s.stated s.n clash.first.0 clash.second.0).0 (between s clash is) in
       rw (accepted_number returned a e, is)
-      (alone (Outcome.Clash i j) (omega (arith, few a e, least.row)) (omega (arith, few a e, least.column))))
+      (alone (Outcome.Clash clash.first clash.second) (omega (arith, few a e, least.row)) (omega (arith, few a e, least.column))))
 
 -- F5 applies to no pair before the one that a clash tells, row by row
 pub none_before : {b facts₀ work₀ replies₀ facts' replies' : List ℕ} {r : ℕ}

@@ -8,7 +8,6 @@ use mathlib.Core.Option.{some}
 use mathlib.Core.Path.{◌≡◌, refl, ap, subst, ◌∙◌}
 use native.Mathlib.Omega.{arith}
 use Rattle.std.proofs.lemmas.Slice.{drop-append-drop}
-use Rattle.fields.specs.declared.numbers.Variable.{Variable}
 use Rattle.fields.specs.declared.refusals.Fault.{Fault}
 use Rattle.fields.specs.declared.refusals.Refusal.{Refusal}
 use Rattle.fields.specs.Refusals.{number_of}
@@ -16,6 +15,7 @@ use Rattle.items.specs.Questions.{Query, holds}
 use Rattle.items.specs.Statements.{All}
 use Rattle.sheet.specs.declared.whole.Accepted.{Accepted}
 use Rattle.sheet.specs.Sheets.{Sheet, sheet_of}
+use Rattle.rules.specs.declared.clashes.Clash.{Clash}
 use Rattle.rules.specs.declared.replies.Reply.{Reply}
 use Rattle.rules.specs.declared.verdicts.Verdict.{Verdict}
 use Rattle.rules.specs.Replies.{reply_number, reply_to, replies_of}
@@ -117,8 +117,8 @@ module _ {b facts work replies facts' work' replies' : List ℕ} {r : ℕ}
   pub by_case : {C : Type 0} → ((q : Refusal) → read ≡ Err q → kind_in r ≡ 2 → C)
       → ((a : Accepted) → read ≡ Ok a
       → verdict_of (sheet_of b) ≡ Verdict.Consistent → kind_in r ≡ 0 → C)
-      → ((a : Accepted) (i j : Variable) → read ≡ Ok a
-      → verdict_of (sheet_of b) ≡ Verdict.Clash i j → kind_in r ≡ 1 → C)
+      → ((a : Accepted) (clash : Clash) → read ≡ Ok a
+      → verdict_of (sheet_of b) ≡ Verdict.Clash clash → kind_in r ≡ 1 → C)
       → C
   by_case {C} stopped fine clashing = go _ refl
     where
@@ -126,8 +126,8 @@ module _ {b facts work replies facts' work' replies' : List ℕ} {r : ℕ}
           → (v : Verdict) → verdict_of (sheet_of b) ≡ v → C
       told a e Verdict.Consistent is =
           fine a e is (rw (accepted_number a e, is) (kind_is _))
-      told a e (Verdict.Clash i j) is =
-          clashing a i j e is (rw (accepted_number a e, is) (kind_is (Outcome.Clash i j)))
+      told a e (Verdict.Clash clash) is =
+          clashing a clash e is (rw (accepted_number a e, is) (kind_is (Outcome.Clash clash.first clash.second)))
 
       go : (x : Result Accepted Refusal) → read ≡ x → C
       go (Err q) e = stopped q e (rw (refused_number q e) (kind_is (of_refusal q)))
@@ -184,7 +184,7 @@ module _ {b facts work replies facts' work' replies' : List ℕ} {r : ℕ}
       by_case (λ x e z. absurd (omega arith))
       (λ a e is z. rw (reply_byte a e is k q at)
       (through (number_always (reply_to (sheet_of b) q)) (always_supported (sheet_of b) q)))
-      (λ a i j e is z. absurd (omega arith))
+      (λ a clash e is z. absurd (omega arith))
 
   pub refused_apart : (q : Refusal) → read ≡ Err q → IsAccepted read → ⊥
   refused_apart q e a = never_accepted (rw e at a)

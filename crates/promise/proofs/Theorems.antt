@@ -49,12 +49,12 @@ module _ {b facts work replies facts' work' replies' : List ℕ} {r : ℕ}
   accepted other =
       Shown.by_case returned (λ q e k. absurd (other (q, e)))
       (λ a e is k. (inl k, means.derived (a, e), λ z. Shown.one_reply_each returned a e is))
-      (λ a i j e is k. (inr k, means.derived (a, e), λ z. absurd (omega arith)))
+      (λ a clash e is k. (inr k, means.derived (a, e), λ z. absurd (omega arith)))
 
   -- Nothing need be checked beforehand.
   pub every_input : (kind_in r ≡ 0) ⊎ ((kind_in r ≡ 1) ⊎ (kind_in r ≡ 2))
   every_input =
-      Shown.by_case returned (λ q e k. inr (inr k)) (λ a e is k. inl k) (λ a i j e is k. inr (inl k))
+      Shown.by_case returned (λ q e k. inr (inr k)) (λ a e is k. inl k) (λ a clash e is k. inr (inl k))
 
   -- Demand 2. The fact table holds exactly the facts that rules F1 to F4 of the calculus derive from the sheet,
   pub facts_derived : IsAccepted read
@@ -67,7 +67,7 @@ module _ {b facts work replies facts' work' replies' : List ℕ} {r : ℕ}
   clash_by_f5 is_accepted = (
     λ k. let least = means.least k in (first_in r, (second_in r, (least.row, least.column, least.applies))),
     λ found. Shown.by_case returned (λ q e k. absurd (Shown.refused_apart returned q e is_accepted))
-        (λ a e is k. absurd (none_applies (sheet_of b) is found)) (λ a i j e is k. k),
+        (λ a e is k. absurd (none_applies (sheet_of b) is found)) (λ a clash e is k. k),
   )
 
   -- and replies agree with its test of support.

@@ -34,7 +34,7 @@ over first buffer = first ++ drop (length first) buffer
 -- written where the sheet is consistent, else as it was
 unfoldable pub where_consistent : Verdict → List ℕ → List ℕ → List ℕ
 where_consistent Verdict.Consistent written buffer = written
-where_consistent (Verdict.Clash i j) written buffer = buffer
+where_consistent (Verdict.Clash clash) written buffer = buffer
 
 -- of an accepted sheet: the first table holds the derived facts, on a clash too
 abbrev pub facts_after : Sheet → List ℕ → List ℕ

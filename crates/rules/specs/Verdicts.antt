@@ -8,7 +8,7 @@ use Rattle.rules.specs.Clashes.{clash_of}
 -- a clash by F5, else consistent
 abbrev pub verdict_by : Option Clash → Verdict
 verdict_by None = Verdict.Consistent
-verdict_by (Some clash) = Verdict.Clash clash.first clash.second
+verdict_by (Some clash) = Verdict.Clash clash
 
 unfoldable pub verdict_of : Sheet → Verdict
 verdict_of s = verdict_by (clash_of s.stated s.n)

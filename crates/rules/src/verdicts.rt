@@ -1,15 +1,14 @@
-// The verdict on an accepted sheet: an enum, since each further thing that can be told of a sheet is a case of it.
+// The verdict on a sheet. `Option<Clash>` is no plainer: each match would have to know that `None` means consistent.
 ghost use Rattle.std.specs.Prelude.{◌≡◌};
 ghost use Rattle.rules.specs.Verdicts.{verdict_by};
 
 use crate::clashes::Clash;
-use sheet::Variable;
 
-#[derive(Clone, Copy)]
+#[derive(Clone, Copy, Debug, PartialEq, Eq)]
 pub enum Verdict {
     Consistent,
     // the pair that clashes
-    Clash(Variable, Variable),
+    Clash(Clash),
 }
 
 // The verdict where this is the first clash, if there is one.
@@ -19,7 +18,7 @@ impl From<Option<Clash>> for Verdict {
     fn from(clash: Option<Clash>) -> Verdict {
         match clash {
             None => Verdict::Consistent,
-            Some(clash) => Verdict::Clash(clash.first, clash.second),
+            Some(clash) => Verdict::Clash(clash),
         }
     }
 }

@@ -8,14 +8,15 @@ ghost use Rattle.statements.specs.Stated.{label_in, stated_from};
 use sheet::{Cursor, Item, Label, Variable, read_record, read_sheet};
 
 // The label that a record states for a variable.
-#[tactic(auto, using(crate::proofs::Labelled::record_label))]
+#[tactic(auto, using(crate::proofs::Labelled::record_label), unfolding(fields::specs::Tests::same))]
 fn label_of(x: Item, i: Variable) -> Option<Label>
     ensures { label_in result ≡ stated_label (statements_of x) i.0 }
 {
-    if x.subject.0 == i.0 { x.label } else { None }
+    if x.subject == i { x.label } else { None }
 }
 
 // The first label that so many records from a cursor on state for a variable.
+// Five parameters: a struct of them would be made for one call and taken apart in it.
 #[tactic(auto, using(crate::proofs::Labelled::label_from))]
 fn first_label(sheet: &[u8], n: u8, count: u16, from: Cursor, i: Variable) -> Option<Label>
     ensures { label_in result ≡ stated_label (stated_from count sheet.now n from) i.0 }

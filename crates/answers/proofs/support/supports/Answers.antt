@@ -33,9 +33,9 @@ pub returns-then-any : goal.returns-then-any
 returns-then-any c =
     let list = c.args.list.now in
     let r = facts c.args.table.now.n c.args.table.now.cells.now in
-    let under = is_under r c.index-subject.result c.in-Selection.f.0 c.index-child.result in
-    let over = is_over r c.index-subject.result c.in-Selection.f.0 c.index-child.result in
-    by_both c.index-subject.ensures c.index-child.ensures c.requires.selections c.in-Selection.is
+    let under = is_under r c.in-Selection.subject.0 c.in-Selection.feature.0 c.in-Selection.child.0 in
+    let over = is_over r c.in-Selection.subject.0 c.in-Selection.feature.0 c.in-Selection.child.0 in
+    by_both c.requires.selections c.in-Selection.is
     (sym (any_from_yields_List under _ _ c.any.result c.any.ensures.ran (YieldsList-from_slice list (cc))
     (λ x b q k. search (rules, tests)))
     ∙ c.if-any.true)
@@ -46,8 +46,8 @@ pub returns-else-any : goal.returns-else-any
 returns-else-any c =
     let list = c.args.list.now in
     let r = facts c.args.table.now.n c.args.table.now.cells.now in
-    let under = is_under r c.index-subject.result c.in-Selection.f.0 c.index-child.result in
-    by_none_under c.index-subject.ensures c.index-child.ensures c.requires.selections c.in-Selection.is
+    let under = is_under r c.in-Selection.subject.0 c.in-Selection.feature.0 c.in-Selection.child.0 in
+    by_none_under c.requires.selections c.in-Selection.is
     (any_from_yields_List under _ _ c.any.result c.any.ensures.ran (YieldsList-from_slice list (cc))
     (λ x b q k. search (rules, tests)))
     c.if-any.false
