@@ -14,11 +14,25 @@ pub struct Field<T> {
     pub next: Cursor,
 }
 
+impl<T> Field<T> {
+    // The same field, with what is made of its value.
+    pub fn map<U, F: FnOnce(T) -> U>(self, make: F) -> Field<U>
+        requires { F.pre make self.value }
+        ensures value { F.post make self.value result.value }
+        ensures next { result.next ≡ self.next }
+    {
+        Field {
+            value: make(self.value),
+            next: self.next,
+        }
+    }
+}
+
 // A field, or why the sheet is refused.
 pub type Read<T> = Result<Field<T>, Refusal>;
 
-// Whether the bit of this value stands in a map. Both are bytes: a map is a field of the format. Not by `map & value != 0`:
-// it is promised of any value, also of one that is no power of two.
+// Whether the bit of this value stands in a map. Both are bytes: a map is a field of the format.
+// Not `map & value != 0`: it is promised of any value, and that differs at one that is no power of two.
 #[tactic(auto, unfolding(crate::specs::Tests::has, crate::specs::Tests::same))]
 pub fn has_bit(value: u8, map: u8) -> bool
     ensures { result ≡ has value map }
@@ -79,10 +93,7 @@ pub fn read_variable(sheet: &[u8], n: u8, from: Cursor) -> Read<Variable>
 {
     let field = read_byte(sheet, from)?;
     if field.value < n {
-        Ok(Field {
-            value: Variable(field.value),
-            next: field.next,
-        })
+        Ok(field.map(Variable))
     } else {
         Err(Refusal {
             fault: Fault::VariableRange,
@@ -92,7 +103,11 @@ pub fn read_variable(sheet: &[u8], n: u8, from: Cursor) -> Read<Variable>
 }
 
 // A field that is there only where its bit stands: a flag, since a map of the format tells which fields stand.
-pub fn read_if<T, F: FnOnce(Cursor) -> Read<T>>(stands: bool, from: Cursor, read: F) -> Read<Option<T>>
+pub fn read_if<T, F: FnOnce(Cursor) -> Read<T>>(
+    stands: bool,
+    from: Cursor,
+    read: F,
+) -> Read<Option<T>>
     requires { F.pre read from }
     ensures { ReadIf (F.post read from) stands from result }
 {
@@ -102,9 +117,5 @@ pub fn read_if<T, F: FnOnce(Cursor) -> Read<T>>(stands: bool, from: Cursor, read
             next: from,
         });
     }
-    let field = read(from)?;
-    Ok(Field {
-        value: Some(field.value),
-        next: field.next,
-    })
+    Ok(read(from)?.map(Some))
 }

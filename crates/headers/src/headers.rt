@@ -14,8 +14,8 @@ pub const LARGEST_TABLE: usize = MOST_VARIABLES * MOST_VARIABLES;
 // The most replies.
 pub const MOST_REPLIES: usize = MOST_ITEMS;
 
-// The fields of a header, and where the first record starts. A count whose bit is missing is 0, says the format, so none is
-// an Option; the map is as it was read.
+// The fields of a header, and where the first record starts.
+// A count whose bit is missing is 0, says the format, so none is an Option; the map is as it was read.
 #[derive(Clone, Copy, Debug, PartialEq, Eq)]
 pub struct Header {
     pub map: u8,
@@ -144,8 +144,16 @@ pub fn read_header(sheet: &[u8]) -> Result<Header, Refusal>
 {
     let map = read_header_map(sheet)?;
     let variables = read_variable_count(sheet, map.next)?;
-    let records = read_if(has_bit(RECORDS, map.value), variables.next, |at| read_count(sheet, at))?;
-    let questions = read_if(has_bit(QUESTIONS, map.value), records.next, |at| read_count(sheet, at))?;
+    let records = read_if(
+        has_bit(RECORDS, map.value),
+        variables.next,
+        |at| read_count(sheet, at),
+    )?;
+    let questions = read_if(
+        has_bit(QUESTIONS, map.value),
+        records.next,
+        |at| read_count(sheet, at),
+    )?;
     Ok(Header {
         map: map.value,
         variables: variables.value,

@@ -79,9 +79,7 @@ fn defined_bits(place: Place) -> u8
 fn is_bad_item_map(place: Place, map: u8) -> bool
     ensures { result ≡ bad_item_map place map }
 {
-    map == 0
-        || defined_bits(place) < map
-        || (place == Place::Question && has_several_bits(map))
+    map == 0 || defined_bits(place) < map || (place == Place::Question && has_several_bits(map))
 }
 
 // An item's map.
@@ -120,21 +118,26 @@ fn read_edge(sheet: &[u8], n: u8, from: Cursor) -> Read<Edge>
 fn read_label(sheet: &[u8], from: Cursor) -> Read<Label>
     ensures { result ≡ label_field sheet.now from }
 {
-    let label = read_word(sheet, from)?;
-    Ok(Field {
-        value: Label(label.value),
-        next: label.next,
-    })
+    Ok(read_word(sheet, from)?.map(Label))
 }
 
 // The fields behind the subject, by rising bit.
+// Sheet, count and cursor are no struct: the header gives the count, map and label need none, a read moves the cursor.
 #[tactic(auto, unfolding(crate::specs::Items::fields_at))]
 fn read_fields(sheet: &[u8], n: u8, map: u8, subject: Variable, from: Cursor) -> Read<Item>
     ensures { result ≡ fields_at sheet.now n map subject from }
 {
     let target = read_if(has_bit(TARGET, map), from, |at| read_variable(sheet, n, at))?;
-    let partner = read_if(has_bit(PARTNER, map), target.next, |at| read_variable(sheet, n, at))?;
-    let edge = read_if(has_bit(EDGE, map), partner.next, |at| read_edge(sheet, n, at))?;
+    let partner = read_if(
+        has_bit(PARTNER, map),
+        target.next,
+        |at| read_variable(sheet, n, at),
+    )?;
+    let edge = read_if(
+        has_bit(EDGE, map),
+        partner.next,
+        |at| read_edge(sheet, n, at),
+    )?;
     let label = read_if(has_bit(LABEL, map), edge.next, |at| read_label(sheet, at))?;
     Ok(Field {
         value: Item {
@@ -196,7 +199,7 @@ impl Item {
     }
 }
 
-// The statement of the first field that is there.
+// The statement of the first field that is there. No question that is read comes to the 0 (sheet: question_alone).
 #[tactic(auto, unfolding(crate::specs::Statements::statement_of))]
 fn statement_of(x: Item) -> Statement
     ensures { result ≡ statement_of x }
@@ -207,12 +210,14 @@ fn statement_of(x: Item) -> Statement
         .unwrap_or(Statement::Labelling(x.subject, x.label.unwrap_or(Label(0))))
 }
 
-// What a question asks.
-#[tactic(auto, unfolding(crate::specs::Questions::question_of))]
-pub fn question_of(x: Item) -> Question
-    ensures { result ≡ question_of x }
-{
-    Question::Holds(statement_of(x))
+impl From<Item> for Question {
+    // What a question asks.
+    ghost from_gives = { λ item question. question ≡ question_of item };
+
+    #[tactic(auto, unfolding(crate::specs::Questions::question_of))]
+    fn from(item: Item) -> Question {
+        Question::Holds(statement_of(item))
+    }
 }
 
 // A question at a cursor.
@@ -220,11 +225,7 @@ pub fn question_of(x: Item) -> Question
 pub fn read_question(sheet: &[u8], n: u8, from: Cursor) -> Read<Question>
     ensures { result ≡ question_at sheet.now n from }
 {
-    let item = read_item(Place::Question, sheet, n, from)?;
-    Ok(Field {
-        value: question_of(item.value),
-        next: item.next,
-    })
+    Ok(read_item(Place::Question, sheet, n, from)?.map(Question::from))
 }
 
 // Where so many items from a cursor on end.
