@@ -91,9 +91,9 @@ if_spans true (Ok f) h = record { holds = (h.holds.0, record { is = refl; fit = 
 if_spans true (Err r) h = record { holds = h.holds }
 
 -- an answer that is known only where its bit stands is that of the field
-pub read_if_is : {T : Type 0} {Reads : Read T → Type 0} (stands : Bool) (c : Cursor) (read : Read T)
-    {answer : Read (Option T)} → ((r : Read T) → Reads r → r ≡ read) → ReadIf Reads stands c answer
-    → answer ≡ field_if stands read c
+pub read_if_is : {T : Type 0} {Reads : Read T → Type 0} (stands : Bool) (c : Cursor) (read : Cursor → Read T)
+    {answer : Read (Option T)} → ((r : Read T) → Reads r → r ≡ read c) → ReadIf Reads stands c answer
+    → answer ≡ field_if stands (read c) c
 unfolding field_if pick
 read_if_is true c read same (r, is, e) = rw (← same r is) e
 read_if_is false c read same e = e

@@ -14,18 +14,30 @@ pub struct Field<T> {
     pub next: Cursor,
 }
 
+impl<T> Field<T> {
+    // The same field, with what is made of its value.
+    pub fn map<U, F: FnOnce(T) -> U>(self, make: F) -> Field<U>
+        requires { F.pre make self.value }
+        ensures value { F.post make self.value result.value }
+        ensures next { result.next ≡ self.next }
+    {
+        Field {
+            value: make(self.value),
+            next: self.next,
+        }
+    }
+}
+
 // A field, or why the sheet is refused.
 pub type Read<T> = Result<Field<T>, Refusal>;
 
 // Whether the bit of this value stands in a map. Both are bytes: a map is a field of the format.
+// Not `map & value != 0`: it is promised of any value, and that differs at one that is no power of two.
 #[tactic(auto, unfolding(crate::specs::Tests::has, crate::specs::Tests::same))]
 pub fn has_bit(value: u8, map: u8) -> bool
     ensures { result ≡ has value map }
 {
-    if value == 0 {
-        return false;
-    }
-    map / value % 2 == 1
+    value != 0 && map / value % 2 == 1
 }
 
 // Two bytes, the high one first.
@@ -33,7 +45,7 @@ pub fn has_bit(value: u8, map: u8) -> bool
 pub fn word_of(high: u8, low: u8) -> u16
     ensures { result ≡ word high low }
 {
-    u16::from(high) * 256 + u16::from(low)
+    u16::from_be_bytes([high, low])
 }
 
 // Refusal 1.
@@ -81,10 +93,7 @@ pub fn read_variable(sheet: &[u8], n: u8, from: Cursor) -> Read<Variable>
 {
     let field = read_byte(sheet, from)?;
     if field.value < n {
-        Ok(Field {
-            value: Variable(field.value),
-            next: field.next,
-        })
+        Ok(field.map(Variable))
     } else {
         Err(Refusal {
             fault: Fault::VariableRange,
@@ -93,10 +102,14 @@ pub fn read_variable(sheet: &[u8], n: u8, from: Cursor) -> Read<Variable>
     }
 }
 
-// A field that is there only where its bit stands.
-pub fn read_if<T, F: FnOnce() -> Read<T>>(stands: bool, from: Cursor, read: F) -> Read<Option<T>>
-    requires { F.pre read }
-    ensures { ReadIf (F.post read) stands from result }
+// A field that is there only where its bit stands: a flag, since a map of the format tells which fields stand.
+pub fn read_if<T, F: FnOnce(Cursor) -> Read<T>>(
+    stands: bool,
+    from: Cursor,
+    read: F,
+) -> Read<Option<T>>
+    requires { F.pre read from }
+    ensures { ReadIf (F.post read from) stands from result }
 {
     if !stands {
         return Ok(Field {
@@ -104,9 +117,5 @@ pub fn read_if<T, F: FnOnce() -> Read<T>>(stands: bool, from: Cursor, read: F) -
             next: from,
         });
     }
-    let field = read()?;
-    Ok(Field {
-        value: Some(field.value),
-        next: field.next,
-    })
+    Ok(read(from)?.map(Some))
 }

@@ -1,7 +1,7 @@
 // The header: a map byte, then by rising bit the fields whose bit stands.
 ghost use Rattle.std.specs.Prelude.{◌≡◌};
 ghost use Rattle.fields.specs.Refusals.{bad_header_map, bad_variable_count};
-ghost use Rattle.headers.specs.Headers.{header_map, variable_count, count_field, count_if, header_of, table_size, reply_count};
+ghost use Rattle.headers.specs.Headers.{header_map, variable_count, count_field, header_of, table_size, reply_count};
 
 use fields::{
     Cursor, Fault, MOST_ITEMS, MOST_VARIABLES, Read, Refusal, has_bit, read_byte, read_if,
@@ -15,6 +15,7 @@ pub const LARGEST_TABLE: usize = MOST_VARIABLES * MOST_VARIABLES;
 pub const MOST_REPLIES: usize = MOST_ITEMS;
 
 // The fields of a header, and where the first record starts.
+// A count whose bit is missing is 0, says the format, so none is an Option; the map is as it was read.
 #[derive(Clone, Copy, Debug, PartialEq, Eq)]
 pub struct Header {
     pub map: u8,
@@ -80,11 +81,7 @@ const QUESTIONS: u8 = 4;
 fn is_bad_header_map(map: u8) -> bool
     ensures { result ≡ bad_header_map map }
 {
-    if has_bit(VARIABLES, map) {
-        7 < map
-    } else {
-        true
-    }
+    !has_bit(VARIABLES, map) || 7 < map
 }
 
 // Row 3 of the refusals.
@@ -92,10 +89,7 @@ fn is_bad_header_map(map: u8) -> bool
 fn is_bad_variable_count(n: u8) -> bool
     ensures { result ≡ bad_variable_count n }
 {
-    if n == 0 {
-        return true;
-    }
-    MOST_VARIABLES < usize::from(n)
+    n == 0 || MOST_VARIABLES < usize::from(n)
 }
 
 // The header's map, the first byte.
@@ -143,13 +137,6 @@ fn read_count(sheet: &[u8], from: Cursor) -> Read<u16>
     Ok(count)
 }
 
-// It is there only where its bit stands, which is a flag as of an item's fields.
-fn read_count_if(stands: bool, sheet: &[u8], from: Cursor) -> Read<Option<u16>>
-    ensures { result ≡ count_if stands sheet.now from }
-{
-    read_if(stands, from, || read_count(sheet, from))
-}
-
 // The header alone: what follows it is not judged.
 #[tactic(auto, unfolding(crate::specs::Headers::header_of))]
 pub fn read_header(sheet: &[u8]) -> Result<Header, Refusal>
@@ -157,8 +144,16 @@ pub fn read_header(sheet: &[u8]) -> Result<Header, Refusal>
 {
     let map = read_header_map(sheet)?;
     let variables = read_variable_count(sheet, map.next)?;
-    let records = read_count_if(has_bit(RECORDS, map.value), sheet, variables.next)?;
-    let questions = read_count_if(has_bit(QUESTIONS, map.value), sheet, records.next)?;
+    let records = read_if(
+        has_bit(RECORDS, map.value),
+        variables.next,
+        |at| read_count(sheet, at),
+    )?;
+    let questions = read_if(
+        has_bit(QUESTIONS, map.value),
+        records.next,
+        |at| read_count(sheet, at),
+    )?;
     Ok(Header {
         map: map.value,
         variables: variables.value,

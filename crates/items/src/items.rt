@@ -1,6 +1,5 @@
 // Records and questions: one reader of an item, told its place.
 ghost use Rattle.std.specs.Prelude.{◌≡◌};
-ghost use Rattle.fields.specs.Fields.{variable_field, field_if};
 ghost use Rattle.fields.specs.Refusals.{defined_bits, several_bits, bad_item_map};
 ghost use Rattle.items.specs.Items.{map_field, edge_field, label_field, fields_at, item_at, question_at, items_end};
 ghost use Rattle.items.specs.Questions.{question_of};
@@ -80,16 +79,7 @@ fn defined_bits(place: Place) -> u8
 fn is_bad_item_map(place: Place, map: u8) -> bool
     ensures { result ≡ bad_item_map place map }
 {
-    if map == 0 {
-        return true;
-    }
-    if defined_bits(place) < map {
-        return true;
-    }
-    match place {
-        Place::Record => false,
-        Place::Question => has_several_bits(map),
-    }
+    map == 0 || defined_bits(place) < map || (place == Place::Question && has_several_bits(map))
 }
 
 // An item's map.
@@ -128,43 +118,27 @@ fn read_edge(sheet: &[u8], n: u8, from: Cursor) -> Read<Edge>
 fn read_label(sheet: &[u8], from: Cursor) -> Read<Label>
     ensures { result ≡ label_field sheet.now from }
 {
-    let label = read_word(sheet, from)?;
-    Ok(Field {
-        value: Label(label.value),
-        next: label.next,
-    })
-}
-
-// Each of them where its bit stands. Whether it does is a flag: it is read from the map, and no step but this depends
-// on it. The sheet, the variable count and the cursor are handed on one by one: a reading keeps two of them (crate sheet),
-// and the count is known behind the header alone.
-fn read_variable_if(stands: bool, sheet: &[u8], n: u8, from: Cursor) -> Read<Option<Variable>>
-    ensures { result ≡ field_if stands (variable_field sheet.now n from) from }
-{
-    read_if(stands, from, || read_variable(sheet, n, from))
-}
-
-fn read_edge_if(stands: bool, sheet: &[u8], n: u8, from: Cursor) -> Read<Option<Edge>>
-    ensures { result ≡ field_if stands (edge_field sheet.now n from) from }
-{
-    read_if(stands, from, || read_edge(sheet, n, from))
-}
-
-fn read_label_if(stands: bool, sheet: &[u8], from: Cursor) -> Read<Option<Label>>
-    ensures { result ≡ field_if stands (label_field sheet.now from) from }
-{
-    read_if(stands, from, || read_label(sheet, from))
+    Ok(read_word(sheet, from)?.map(Label))
 }
 
 // The fields behind the subject, by rising bit.
+// Sheet, count and cursor are no struct: the header gives the count, map and label need none, a read moves the cursor.
 #[tactic(auto, unfolding(crate::specs::Items::fields_at))]
 fn read_fields(sheet: &[u8], n: u8, map: u8, subject: Variable, from: Cursor) -> Read<Item>
     ensures { result ≡ fields_at sheet.now n map subject from }
 {
-    let target = read_variable_if(has_bit(TARGET, map), sheet, n, from)?;
-    let partner = read_variable_if(has_bit(PARTNER, map), sheet, n, target.next)?;
-    let edge = read_edge_if(has_bit(EDGE, map), sheet, n, partner.next)?;
-    let label = read_label_if(has_bit(LABEL, map), sheet, edge.next)?;
+    let target = read_if(has_bit(TARGET, map), from, |at| read_variable(sheet, n, at))?;
+    let partner = read_if(
+        has_bit(PARTNER, map),
+        target.next,
+        |at| read_variable(sheet, n, at),
+    )?;
+    let edge = read_if(
+        has_bit(EDGE, map),
+        partner.next,
+        |at| read_edge(sheet, n, at),
+    )?;
+    let label = read_if(has_bit(LABEL, map), edge.next, |at| read_label(sheet, at))?;
     Ok(Field {
         value: Item {
             subject,
@@ -225,29 +199,25 @@ impl Item {
     }
 }
 
-// The statement of the first field that is there.
+// The statement of the first field that is there. No question that is read comes to the 0 (sheet: question_alone).
 #[tactic(auto, unfolding(crate::specs::Statements::statement_of))]
 fn statement_of(x: Item) -> Statement
     ensures { result ≡ statement_of x }
 {
-    if let Some(statement) = x.ordering() {
-        return statement;
-    }
-    if let Some(statement) = x.compatibility() {
-        return statement;
-    }
-    if let Some(statement) = x.selection() {
-        return statement;
-    }
-    Statement::Labelling(x.subject, x.label.unwrap_or(Label(0)))
+    x.ordering()
+        .or(x.compatibility())
+        .or(x.selection())
+        .unwrap_or(Statement::Labelling(x.subject, x.label.unwrap_or(Label(0))))
 }
 
-// What a question asks.
-#[tactic(auto, unfolding(crate::specs::Questions::question_of))]
-pub fn question_of(x: Item) -> Question
-    ensures { result ≡ question_of x }
-{
-    Question::Holds(statement_of(x))
+impl From<Item> for Question {
+    // What a question asks.
+    ghost from_gives = { λ item question. question ≡ question_of item };
+
+    #[tactic(auto, unfolding(crate::specs::Questions::question_of))]
+    fn from(item: Item) -> Question {
+        Question::Holds(statement_of(item))
+    }
 }
 
 // A question at a cursor.
@@ -255,11 +225,7 @@ pub fn question_of(x: Item) -> Question
 pub fn read_question(sheet: &[u8], n: u8, from: Cursor) -> Read<Question>
     ensures { result ≡ question_at sheet.now n from }
 {
-    let item = read_item(Place::Question, sheet, n, from)?;
-    Ok(Field {
-        value: question_of(item.value),
-        next: item.next,
-    })
+    Ok(read_item(Place::Question, sheet, n, from)?.map(Question::from))
 }
 
 // Where so many items from a cursor on end.

@@ -10,7 +10,7 @@ use items::items_end;
 
 // The bytes of the record that so many records precede.
 #[tactic(auto, using(crate::proofs::Inside::record_inside), unfolding(crate::specs::Parts::part_at))]
-fn part_at<'a>(sheet: &'a [u8], header: Header, which: u16) -> &'a [u8]
+fn part_at(sheet: &[u8], header: Header, which: u16) -> &[u8]
     ensures { result.now ≡ part_at sheet.now header which }
 {
     let n = header.variables;
@@ -28,7 +28,7 @@ fn part_at<'a>(sheet: &'a [u8], header: Header, which: u16) -> &'a [u8]
 // A record's own bytes, by its number: a part of the sheet. Empty for a refused sheet, or a number not below the
 // record count, so that `as` narrows no other.
 #[tactic(auto, unfolding(crate::specs::Parts::record_bytes, fields::specs::Tests::less, fields::specs::Tests::pick))]
-pub fn record_part<'a>(sheet: &'a [u8], which: u32) -> &'a [u8]
+pub fn record_part(sheet: &[u8], which: u32) -> &[u8]
     ensures { result.now ≡ record_bytes sheet.now which }
 {
     match read_sheet(sheet) {

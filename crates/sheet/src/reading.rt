@@ -27,14 +27,10 @@ fn end_of<T>(read: &Read<T>, from: Cursor) -> Cursor
 }
 
 // What stands from a cursor on; nothing behind the end.
-fn rest_from<'a>(sheet: &'a [u8], from: Cursor) -> &'a [u8]
+fn rest_from(sheet: &[u8], from: Cursor) -> &[u8]
     ensures { result.now ≡ drop from.at sheet.now }
 {
-    let at = from.at;
-    if sheet.len() < at {
-        return &sheet[..0];
-    }
-    &sheet[at..]
+    &sheet[from.at.min(sheet.len())..]
 }
 
 impl<'a> Reader<'a> {
@@ -46,7 +42,7 @@ impl<'a> Reader<'a> {
     }
 
     // Goes on behind what was read, or stays where it was refused.
-    fn pass<'s, T: Copy>(&'s mut self, read: Read<T>) -> Read<T>
+    fn pass<T: Copy>(&mut self, read: Read<T>) -> Read<T>
         ensures { (result ≡ read) × (self.new ≡ moved self.old (end_of read self.old.next)) }
     {
         self.next = end_of(&read, self.next);
@@ -54,7 +50,8 @@ impl<'a> Reader<'a> {
     }
 
     // The next field of one byte. A refused reading stays where it is.
-    pub fn next_byte<'s>(&'s mut self) -> Read<u8>
+    // This and the three below are four names for users, each a line over `pass`.
+    pub fn next_byte(&mut self) -> Read<u8>
         ensures { (result ≡ byte_field (bytes_of self.old) self.old.next)
             × (self.new ≡ moved self.old (end_of result self.old.next)) }
     {
@@ -62,15 +59,15 @@ impl<'a> Reader<'a> {
     }
 
     // The next field of two bytes.
-    pub fn next_word<'s>(&'s mut self) -> Read<u16>
+    pub fn next_word(&mut self) -> Read<u16>
         ensures { (result ≡ word_field (bytes_of self.old) self.old.next)
             × (self.new ≡ moved self.old (end_of result self.old.next)) }
     {
         self.pass(read_word(self.sheet, self.next))
     }
 
-    // The next record, over n variables. Four names for users, each a line over `pass`.
-    pub fn next_record<'s>(&'s mut self, n: u8) -> Read<Item>
+    // The next record, over n variables.
+    pub fn next_record(&mut self, n: u8) -> Read<Item>
         ensures { (result ≡ item_at Place.Record (bytes_of self.old) n self.old.next)
             × (self.new ≡ moved self.old (end_of result self.old.next)) }
     {
@@ -78,7 +75,7 @@ impl<'a> Reader<'a> {
     }
 
     // The next question, over n variables.
-    pub fn next_question<'s>(&'s mut self, n: u8) -> Read<Question>
+    pub fn next_question(&mut self, n: u8) -> Read<Question>
         ensures { (result ≡ question_at (bytes_of self.old) n self.old.next)
             × (self.new ≡ moved self.old (end_of result self.old.next)) }
     {
