@@ -2,17 +2,27 @@
 ghost use Rattle.std.specs.Prelude.{◌<◌, ◌≡◌};
 ghost use Rattle.items.specs.Statements.{Names};
 ghost use Rattle.rules.specs.Tables.{facts};
+ghost use Rattle.rules.specs.declared.kinds.Kind.{Kind};
+ghost use Rattle.table.specs.Cells.{Cell};
 ghost use Rattle.selections.specs.Listed.{Selections};
 ghost use Rattle.answers.specs.Cells.{Lent};
 ghost use Rattle.answers.specs.Supports.{SingleLabels, IsSelection, is_under, is_over, LabelTold, SupportTold};
 
 use crate::cells::has_fact;
-use fields::Label;
+use fields::{Label, Variable};
 use items::Statement;
 use labels::Labels;
 use rules::Kind;
 use selections::Selection;
 use table::Table;
+
+// Whether i ≤ j holds.
+fn is_below(table: &Table<'_>, i: Variable, j: Variable) -> bool
+    requires { Cell table.now.n table.now.cells.now i.0 j.0 }
+    ensures { result ≡ facts table.now.n table.now.cells.now Kind.Ordered i.0 j.0 }
+{
+    has_fact(table, Kind::Ordered, i.index(), j.index())
+}
 
 // Whether the selection is some k[f]m with k ≤ i and j ≤ m, where i[f]j is asked.
 #[tactic(auto, unfolding(fields::specs::Tests::same))]
@@ -23,18 +33,8 @@ fn is_under(table: &Table<'_>, selection: &Selection, asked: Selection) -> bool
         ≡ is_under (facts table.now.n table.now.cells.now) asked.subject.0 asked.feature.0 asked.child.0 selection.now }
 {
     selection.feature == asked.feature
-        && has_fact(
-            table,
-            Kind::Ordered,
-            selection.subject.index(),
-            asked.subject.index(),
-        )
-        && has_fact(
-            table,
-            Kind::Ordered,
-            asked.child.index(),
-            selection.child.index(),
-        )
+        && is_below(table, selection.subject, asked.subject)
+        && is_below(table, asked.child, selection.child)
 }
 
 // Whether it has i ≤ k and m ≤ j. One function that is handed either order by a closure would be no plainer than two.
@@ -46,18 +46,8 @@ fn is_over(table: &Table<'_>, selection: &Selection, asked: Selection) -> bool
         ≡ is_over (facts table.now.n table.now.cells.now) asked.subject.0 asked.feature.0 asked.child.0 selection.now }
 {
     selection.feature == asked.feature
-        && has_fact(
-            table,
-            Kind::Ordered,
-            asked.subject.index(),
-            selection.subject.index(),
-        )
-        && has_fact(
-            table,
-            Kind::Ordered,
-            selection.child.index(),
-            asked.child.index(),
-        )
+        && is_below(table, asked.subject, selection.subject)
+        && is_below(table, selection.child, asked.child)
 }
 
 // Whether some k ≤ i has the label a.
@@ -77,7 +67,7 @@ pub fn supports(table: &Table<'_>, list: &[Selection], labels: &Labels, q: State
     ensures { SupportTold table.now.n table.now.cells.now list.now labels.now.spreads q result }
 {
     match q {
-        Statement::Ordering(i, j) => has_fact(table, Kind::Ordered, i.index(), j.index()),
+        Statement::Ordering(i, j) => is_below(table, i, j),
         Statement::Compatibility(i, j) => has_fact(table, Kind::Compatible, i.index(), j.index()),
         Statement::Selection(subject, feature, child) => {
             let asked = Selection {

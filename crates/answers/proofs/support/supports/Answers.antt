@@ -1,5 +1,5 @@
 -- Each kind of question by its own search.
-use Rattle.std.proofs.Common.{sym, ◌∙◌, rules, tests}
+use Rattle.std.proofs.Common.{refl, sym, ◌∙◌, rules, tests}
 use Rattle.std.proofs.lemmas.Iterator.{YieldsList-from_slice}
 use Rattle.std.proofs.lemmas.Iterator.Adapters.{serves_from_places}
 use Rattle.std.proofs.lemmas.Iterator.Search.{any_from_yields_List}
@@ -9,12 +9,11 @@ use Rattle.answers.proofs.Shown.{lawful_at, by_ordering, by_compatibility, by_bo
 use Rattle.answers.proofs.support.supports.Goals as goal
 
 pub returns-in-Ordering : goal.returns-in-Ordering
-returns-in-Ordering c = by_ordering c.index.ensures c.index-in-Ordering.ensures c.in-Ordering.is c.has_fact.ensures
+returns-in-Ordering c = by_ordering refl refl c.in-Ordering.is c.is_below.ensures
 
 pub returns-in-Compatibility : goal.returns-in-Compatibility
 returns-in-Compatibility c =
-    by_compatibility c.index-in-Compatibility.ensures c.index-in-Compatibility-2.ensures c.in-Compatibility.is
-    c.has_fact-in-Compatibility.ensures
+    by_compatibility c.index.ensures c.index-in-Compatibility.ensures c.in-Compatibility.is c.has_fact.ensures
 
 -- each selection of the list is lawful
 pub any-requires-clause-callable : goal.any-requires-clause-callable
