@@ -36,8 +36,8 @@ def enums(text):
 
 
 def functions(text):
-    for found, block in blocks(text, r'\bfn (\w+)(<[^>]*>)?\s*\('):
-        at, depth = block.index('('), 0
+    for found, block in blocks(text, r'\bfn (\w+)(<(?:->|<[^<>]*>|[^<>-])*>)?\s*\('):
+        at, depth = found.end() - found.start() - 1, 0
         for end in range(at, len(block)):
             depth += {'(': 1, ')': -1}.get(block[end], 0)
             if depth == 0:

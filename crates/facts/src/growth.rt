@@ -95,7 +95,11 @@ impl Growth<'_> {
     }
 
     // Each variable that the column marks takes the row.
-    pub(crate) fn take_rows(&mut self, column: &[bool; MOST_VARIABLES], row: &[Kinds; MOST_VARIABLES])
+    pub(crate) fn take_rows(
+        &mut self,
+        column: &[bool; MOST_VARIABLES],
+        row: &[Kinds; MOST_VARIABLES],
+    )
         requires { TakingRows self.old.n (state_of self.old) row.now }
         ensures added { Added self.old.n (RowsTaken self.old.n column.now row.now)
             (state_of self.old) (state_of self.new) }

@@ -13,7 +13,7 @@ use rules::Kind;
 use table::{BOTH, Kinds, NEITHER};
 
 impl Growth<'_> {
-    // Whether x is below u and lacks w at v. Each of the four is another one at each call.
+    // Whether x is below u and lacks w at v. No struct of w, u and v: it would serve this one and the next alone.
     #[tactic(auto, using(crate::proofs::Inserting::marks))]
     fn mark(&self, w: Kinds, u: usize, v: usize, x: usize) -> bool
         requires below { Cell self.now.n self.now.cells.now x u }

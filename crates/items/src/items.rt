@@ -228,7 +228,7 @@ pub fn read_question(sheet: &[u8], n: u8, from: Cursor) -> Read<Question>
     Ok(read_item(Place::Question, sheet, n, from)?.map(Question::from))
 }
 
-// Where so many items from a cursor on end.
+// Where so many items from a cursor on end. No struct of these, as above: count and cursor change at each turn.
 #[tactic(auto, using(crate::proofs::Runs::run_over, crate::proofs::Runs::run_step, crate::proofs::Runs::run_refused))]
 pub fn items_end(
     count: u16,
