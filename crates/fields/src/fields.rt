@@ -1,5 +1,5 @@
 // One field at a cursor: looked for whole, then judged, before the next.
-ghost use Rattle.std.specs.Prelude.{◌≡◌};
+ghost use Rattle.std.specs.Prelude.{◌≡◌, IsTrue};
 ghost use Rattle.fields.specs.Fields.{word, byte_field, word_field, variable_field, ReadIf};
 ghost use Rattle.fields.specs.Refusals.{cut};
 ghost use Rattle.fields.specs.Tests.{has};
@@ -108,7 +108,7 @@ pub fn read_if<T, F: FnOnce(Cursor) -> Read<T>>(
     from: Cursor,
     read: F,
 ) -> Read<Option<T>>
-    requires { F.pre read from }
+    requires { IsTrue stands → F.pre read from }
     ensures { ReadIf (F.post read from) stands from result }
 {
     if !stands {
