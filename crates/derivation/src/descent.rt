@@ -20,7 +20,7 @@ fn is_new(growth: &Growth, groups: &Groups, w: Kinds, child: Child, at: usize) -
     requires { Telling growth.now.n growth.now.cells.now groups.now child.variable.0 at }
     ensures { result ≡ is_new growth.now.n growth.now.cells.now groups.now w.0 child.feature.0 child.variable.0 at }
 {
-    let other = groups.children[at];
+    let other = &groups.children[at];
     let i = child.variable.index();
     other.feature == child.feature && growth.look(i, other.variable.index()).lacks(w)
 }
