@@ -89,8 +89,14 @@ impl Growth<'_> {
             (state_of self.old) (state_of self.new) }
         ensures same { IsSame self.old self.new }
     {
-        for y in 0..self.n {
-            self.take_pair(row[y], x, y);
+        // a growth of its own is kept in registers while it takes the row
+        let mut growth = Growth {
+            cells: self.cells,
+            n: self.n,
+            queue: self.queue,
+        };
+        for y in 0..growth.n {
+            growth.take_pair(row[y], x, y);
         }
     }
 

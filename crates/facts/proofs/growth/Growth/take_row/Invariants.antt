@@ -9,6 +9,6 @@ invariant-loop-y l =
     record {
       added :
           Added l.fn.self.n (Among 0 l.y (λ k. Sides (kinds_at l.row k).0 l.x k)) (state_of l.fn.self)
-          (state_of l.self);
-      same : IsSame l.fn.self l.self;
+          (state_of l.growth);
+      same : IsSame l.initial.growth l.growth;
     }
