@@ -5,6 +5,7 @@ use mathlib.Core.Bool.{Bool}
 use mathlib.Core.List.{List, [], ◌∷◌, ◌++◌}
 use mathlib.Core.Option.{none, some}
 use mathlib.Core.Path.{◌≡◌, refl, sym, ◌∙◌}
+use native.Mathlib.Nat.{sub-add-eq}
 use native.Mathlib.Omega.{arith}
 use Rattle.fields.specs.declared.fields.Field.{Field}
 use Rattle.fields.specs.declared.numbers.Cursor.{Cursor}
@@ -18,7 +19,7 @@ use Rattle.items.specs.declared.items.Item.{Item}
 use Rattle.items.specs.declared.items.Statement.{Statement}
 use Rattle.items.specs.Items.{item_at, items_of}
 use Rattle.items.specs.Statements.{ordering_of, compatibility_of, selection_of, labelling_of, statements_of}
-use Rattle.items.proofs.Runs.{fewer, items_over, items_on}
+use Rattle.items.proofs.Runs.{items_over, items_on}
 use Rattle.sheet.specs.declared.whole.Accepted.{Accepted}
 use Rattle.sheet.specs.Sheets.{read_sheet, sheet_of, sheet_at}
 use Rattle.sheet.proofs.Theorems.{accepted_sheet}
@@ -119,7 +120,7 @@ pub label_passed : (s : List ℕ) (n count k : ℕ) (cursor : Cursor) (i : ℕ) 
     → stated_label (statements_of f.value) i ≡ none
     → stated_label (stated_from (count - (k + 1)) s n f.next) i ≡ stated_label (stated_from (count - k) s n cursor) i
 label_passed s n count k cursor i f more e p =
-    rw (fewer count k) (sym (label_later s n (count - k) cursor i (omega arith) f e p))
+    rw (sub-add-eq count k 1) (sym (label_later s n (count - k) cursor i (omega arith) f e p))
 
 pub ruleset label_from = (labels_over, label_found, label_passed, labels_refused)
 
