@@ -2,17 +2,19 @@
 use Prim.Native.Nat.{ℕ, ◌+◌, ◌<◌, ◌≤◌}
 use mathlib.Core.Bool.{true, false}
 use mathlib.Core.List.{List}
+use mathlib.Core.Logic.{⊎_elim}
 use mathlib.Core.Path.{◌≡◌, refl, sym, ap, subst, ◌∙◌}
 use native.Mathlib.Omega.{arith}
 use Rattle.std.specs.Prelude.{Option, Some, None, MatchOption}
 use Rattle.std.specs.Bool.{⊤}
-use Rattle.fields.specs.Tests.{less, same, pick}
-use Rattle.fields.proofs.Choice.{is_same, same_true, less_true, less_false}
+use Rattle.std.proofs.lemmas.Bool.{both_ways, cases_lt}
+use Rattle.fields.specs.Tests.{same, pick}
+use Rattle.fields.proofs.Choice.{is_same, same_true}
 use Rattle.rules.specs.declared.kinds.Kind.{Kind}
 use Rattle.rules.specs.Facts.{Holds}
 use Rattle.rules.specs.Tables.{says, cell_at, facts, Shape}
 use Rattle.rules.proofs.Cells.{says_nothing}
-use Rattle.rules.proofs.Logic.{decided, contrary}
+use Rattle.rules.proofs.Logic.{decided}
 use Rattle.rules.proofs.Tables.{fact_said}
 use Rattle.table.specs.Cells.{is_lacking}
 use Rattle.table.specs.declared.queue.Entry.{Entry}
@@ -28,19 +30,12 @@ use Rattle.derivation.specs.Descent.{Under, UnderAll, HandedDown, Running, Handi
 use Rattle.derivation.specs.Descent.{NoRowNew, NextRow, Visiting}
 use Rattle.derivation.specs.Descent.{Visited}
 
--- a fact of one number of variables, at an equal one
-pub to_size : (P : ℕ → Type 0) {m n : ℕ} → m ≡ n → P m → P n
-to_size P same p = subst P same p
-
-pub at_size : (P : ℕ → Type 0) {m n : ℕ} → m ≡ n → P n → P m
-at_size P same p = subst P (sym same) p
-
 -- a place that is not new has nothing to tell, and a new one has the feature
 module _ (n : ℕ) (t : List ℕ) (groups : Groups) (w f i k : ℕ) where
   new_feature : is_new n t groups w f i k ≡ true → feature_at groups k ≡ f
   unfolding is_new pick
   new_feature p =
-      decided (same (feature_at groups k) f) (λ e. same_true _ _ e) (λ e. absurd (contrary p (rw e refl)))
+      decided (same (feature_at groups k) f) (λ e. same_true _ _ e) (λ e. absurd (both_ways _ (rw e refl) p))
 
   not_new : Shape n t → w < 4 → i < n → variable_at groups k < n → is_new n t groups w f i k ≡ false
       → (kind : Kind) (x y : ℕ) → Under groups w f i k kind x y → Holds (facts n t) kind x y
@@ -188,7 +183,7 @@ module _ {n : ℕ} {s : State} {groups : Groups} {entry : Entry}
     pub visit_none : w ≡ 0 → Steps n Seen s s
     visit_none e =
         steps_already Seen s visiting.running.ready.shape visiting.running.framed λ kind x y p.
-        absurd (contrary (of_said kind p.parents) (ap (says kind) e ∙ says_nothing kind))
+        absurd (both_ways _ (ap (says kind) e ∙ says_nothing kind) (of_said kind p.parents))
 
     pub visit_steps : {s' : State} → Steps n (HandedDown groups w u v) s s' → Steps n Seen s s'
     visit_steps steps = steps_as Seen to_seen from_seen steps
@@ -227,9 +222,9 @@ module _ {n : ℕ} {s : State} {groups : Groups} {w u v : ℕ} (handing : Handin
         → Steps m (UnderAll groups w (feature_at groups at) (variable_at groups at) v) s' s''
         → HandedUpto n groups w u v s s'' (at + 1)
     handed_next {s'' = s''} at same found told =
-        let row = to_size (λ z. NextRow z s'.table groups w (start_at groups v) (end_at groups v) k (end_at groups u) at) same found in
+        let row = subst (λ z. NextRow z s'.table groups w (start_at groups v) (end_at groups v) k (end_at groups u) at) same found in
         let row_told = UnderAll groups w (feature_at groups at) (variable_at groups at) v in
-        let steps = to_size (λ z. Steps z row_told s' s'') same told in
+        let steps = subst (λ z. Steps z row_told s' s'') same told in
         let before = handed_pass at row.behind (omega (arith, row.ahead)) row.passed in
         record {
           along = along_next before.along row.ahead;
@@ -241,12 +236,11 @@ module _ {n : ℕ} {s : State} {groups : Groups} {w u v : ℕ} (handing : Handin
         → NoRowNew m s'.table groups w (start_at groups v) (end_at groups v) k (end_at groups u)
         → Steps n (HandedDown groups w u v) s s'
     handed_all same passed =
-        let none = to_size (λ z. NoRowNew z s'.table groups w (start_at groups v) (end_at groups v) k (end_at groups u)) same passed in
-        decided (less k (end_at groups u))
-        (λ p. let h = less_true _ _ p in (handed_pass (end_at groups u) (omega arith) (omega arith) none).steps)
+        let none = subst (λ z. NoRowNew z s'.table groups w (start_at groups v) (end_at groups v) k (end_at groups u)) same passed in
+        ⊎_elim (λ h. (handed_pass (end_at groups u) (omega arith) (omega arith) none).steps)
         (λ p.
-        steps_along (λ x. UnderAll groups w (feature_at groups x) (variable_at groups x) v) handed.along
-        (less_false _ _ p) handed.steps)
+        steps_along (λ x. UnderAll groups w (feature_at groups x) (variable_at groups x) v) handed.along p handed.steps)
+        (cases_lt k (end_at groups u))
 
 -- w is told of i and the children of v at f, up to a place
 pub record ToldUpto (n : ℕ) (groups : Groups) (w f i v : ℕ) (s s' : State) (at : ℕ) : Type 0 where
@@ -278,8 +272,8 @@ module _ {n : ℕ} {s : State} {groups : Groups} {w i v : ℕ} (handing : Handin
         → FirstNew m s'.table groups w f i k (end_at groups v) at → a ≡ i → x ≡ variable_at groups at
         → Steps m (Said w a x) s' s'' → ToldUpto n groups w f i v s s'' (at + 1)
     told_next {s'' = s''} at a x same found first e told =
-        let place = to_size (λ z. FirstNew z s'.table groups w f i k (end_at groups v) at) same found in
-        let steps = to_size (λ z. Steps z (Said w i x) s' s'') same (rw first at told) in
+        let place = subst (λ z. FirstNew z s'.table groups w f i k (end_at groups v) at) same found in
+        let steps = subst (λ z. Steps z (Said w i x) s' s'') same (rw first at told) in
         let before = told_pass at place.behind (omega (arith, place.ahead)) place.passed in
         record {
           along = along_next before.along place.ahead;
@@ -292,7 +286,6 @@ module _ {n : ℕ} {s : State} {groups : Groups} {w i v : ℕ} (handing : Handin
     pub told_all : {m : ℕ} → m ≡ n → NoneNew m s'.table groups w f i k (end_at groups v)
         → Steps n (UnderAll groups w f i v) s s'
     told_all same passed =
-        let none = to_size (λ z. NoneNew z s'.table groups w f i k (end_at groups v)) same passed in
-        decided (less k (end_at groups v))
-        (λ p. let h = less_true _ _ p in (told_pass (end_at groups v) (omega arith) (omega arith) none).steps)
-        (λ p. steps_along (Under groups w f i) so_far.along (less_false _ _ p) so_far.steps)
+        let none = subst (λ z. NoneNew z s'.table groups w f i k (end_at groups v)) same passed in
+        ⊎_elim (λ h. (told_pass (end_at groups v) (omega arith) (omega arith) none).steps)
+        (λ p. steps_along (Under groups w f i) so_far.along p so_far.steps) (cases_lt k (end_at groups v))

@@ -1,11 +1,14 @@
 -- How orderings and compatibilities of statements stand in a list of pairs, one statement after another.
 use Prim.Native.Nat.{ℕ, ◌+◌, ◌<◌}
-use lib.ListN.{length, length-append}
+use lib.ListN.{length, length-append, get_or-append}
 use mathlib.Core.List.Memᴰ
 use mathlib.Core.List.{List, [], ◌∷◌, ◌++◌}
 use mathlib.Core.Logic.{⊎_elim}
+use lib.Seq.{get_or-append-add}
 use mathlib.Core.Path.{◌≡◌, refl, subst}
 use native.Mathlib.Omega.{arith}
+use Rattle.std.proofs.lemmas.List.{get_or_push}
+use Rattle.std.proofs.lemmas.Bool.{both_ways}
 use Rattle.fields.specs.Tests.{less, same}
 use Rattle.items.specs.declared.items.Statement.{Statement}
 use Rattle.items.specs.Statements.{Names, AllName}
@@ -14,11 +17,10 @@ use Rattle.rules.specs.Stated.{ordering, compatibility}
 use Rattle.rules.specs.declared.kinds.Kind.{Kind}
 use Rattle.rules.specs.Facts.{fact}
 use Rattle.rules.specs.Tables.{says, kind_cell}
-use Rattle.rules.proofs.Logic.{contrary}
 use Rattle.rules.proofs.More.{still, stated_of}
 use Rattle.facts.specs.Additions.{Facts, Said, Among}
 use Rattle.facts.proofs.Sets.{among_none}
-use Rattle.selections.proofs.Appended.{entries_of, single, below_both, at_single, at_first, at_second, at_either}
+use Rattle.selections.proofs.Appended.{entries_of, below_both, at_either}
 use Rattle.selections.proofs.Stands.{selection_in}
 use Rattle.derivation.specs.declared.pairs.Pair.{Pair}
 use Rattle.derivation.specs.Stands.{pair_of, no_pair, Pairs, SaidBy, Paired, PairsStand}
@@ -60,10 +62,10 @@ module _ {pairs pairs' : List Pair} where
         listed = λ kind i j m.
             ⊎_elim
             (λ s. let a = stand.listed kind i j s in let h = a.ahead in
-            among_at a.at (omega arith) (at_first (Says kind i j) no_pair pairs pairs' a.at h a.holds))
+            among_at a.at (omega arith) (rw (get_or-append pairs pairs' no_pair a.at h) a.holds))
             (λ s. let a = stand'.listed kind i j s in let h = a.ahead in
             among_at (length pairs + a.at) (omega arith)
-            (at_second (Says kind i j) no_pair pairs pairs' a.at a.holds))
+            (rw (get_or-append-add pairs pairs' a.at no_pair) a.holds))
             (Memᴰ.append_cases st m);
         stated = λ kind i j a.
             at_either (Says kind i j) no_pair pairs pairs' a.at a.ahead a.holds
@@ -91,9 +93,9 @@ no_pairs_stand =
 one_pair : (n w i j : ℕ) → w < 4 → i < n → j < n → Pairs n (pair_of w i j ∷ [])
 one_pair n w i j small left right =
     record {
-      cell_small = λ k h. rw (single (pair_of w i j) no_pair k h) small;
-      left_below = λ k h. rw (single (pair_of w i j) no_pair k h) left;
-      right_below = λ k h. rw (single (pair_of w i j) no_pair k h) right;
+      cell_small = λ k h. rw (get_or_push [] (pair_of w i j) no_pair k (omega arith)) small;
+      left_below = λ k h. rw (get_or_push [] (pair_of w i j) no_pair k (omega arith)) left;
+      right_below = λ k h. rw (get_or_push [] (pair_of w i j) no_pair k (omega arith)) right;
     }
 
 module _ {w x y : ℕ} {kind : Kind} {i j : ℕ} where
@@ -101,7 +103,7 @@ module _ {w x y : ℕ} {kind : Kind} {i j : ℕ} where
   said_paired p = among_at 0 (omega arith) p
 
   pub said_of : Paired (pair_of w x y ∷ []) kind i j → Said w x y kind i j
-  said_of a = at_single (Says kind i j) no_pair (pair_of w x y) a.at a.ahead a.holds
+  said_of a = rw (get_or_push [] (pair_of w x y) no_pair a.at (omega (arith, a.ahead))) at a.holds
 
 -- one statement: its entry, if any, is lawful and says its fact
 statement_lawful : (n : ℕ) (q : Statement) → Names n q → Pairs n (pair_in q)
@@ -121,8 +123,8 @@ fact_paired Kind.Compatible i j = said_paired record { first = refl; second = re
 pub fact_said : (kind other : Kind) (x y i j : ℕ) → Said (kind_cell kind) x y other i j → fact other i j ≡ fact kind x y
 unfolding says same less ◌or◌
 fact_said Kind.Ordered Kind.Ordered x y i j p = rw (p.first, p.second) refl
-fact_said Kind.Ordered Kind.Compatible x y i j p = absurd (contrary p.told refl)
-fact_said Kind.Compatible Kind.Ordered x y i j p = absurd (contrary p.told refl)
+fact_said Kind.Ordered Kind.Compatible x y i j p = absurd (both_ways _ refl p.told)
+fact_said Kind.Compatible Kind.Ordered x y i j p = absurd (both_ways _ refl p.told)
 fact_said Kind.Compatible Kind.Compatible x y i j p = rw (p.first, p.second) refl
 
 -- the other way round, and a fact is no selection

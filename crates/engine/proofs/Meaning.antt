@@ -5,8 +5,10 @@ use lib.ListN.{length}
 use lib.Seq.{take_at}
 use mathlib.Core.Bool.{true, false}
 use mathlib.Core.List.{List}
+use mathlib.Core.Logic.Iff.{trans}
 use mathlib.Core.Path.{◌≡◌, refl, ap, ◌∙◌}
 use native.Mathlib.Omega.{arith}
+use Rattle.std.proofs.lemmas.Bool.{both_ways}
 use Rattle.fields.specs.declared.refusals.Refusal.{Refusal}
 use Rattle.headers.specs.Headers.{size_for}
 use Rattle.items.specs.Questions.{Query}
@@ -21,7 +23,6 @@ use Rattle.rules.specs.Clashes.{clashes}
 use Rattle.rules.specs.Replies.{fails, reply_to, reply_number}
 use Rattle.rules.specs.Verdicts.{verdict_of}
 use Rattle.rules.proofs.Tables.{table_length}
-use Rattle.rules.proofs.Logic.{contrary}
 use Rattle.trees.specs.Assignments.{Assignment, Counts}
 use Rattle.trees.specs.Demand.{Answers, Demand3}
 use Rattle.trees.proofs.Demands.{demand_2, demand_3, demand_3_asked}
@@ -33,16 +34,16 @@ use Rattle.promise.specs.Checks.{Checked, Returned}
 use Rattle.promise.specs.Promise.{IsAccepted, IsRefused, FactsTold, ByteMeans, Means}
 use Rattle.promise.proofs.Clashes.{nowhere, between}
 use Rattle.promise.proofs.Shown.{by_case, read, never_accepted, never_refused, accepted_number, reply_byte, at_question}
-use Rattle.promise.proofs.Shown.{number_always, number_never, number_open, through}
+use Rattle.promise.proofs.Shown.{number_always, number_never, number_open}
 
 byte_means : (C : Assignment → Type 0) (s : Sheet) (q : Query) (byte : ℕ) → byte ≡ reply_number (reply_to s q)
     → Answers C q (reply_to s q) → ByteMeans C q byte
 byte_means C s q byte e answers =
     rw e
     record {
-      always = through (number_always (reply_to s q)) answers.is_always;
-      never = through (number_never (reply_to s q)) answers.is_never;
-      undecided = through (number_open (reply_to s q)) answers.is_open;
+      always = trans (number_always (reply_to s q)) answers.is_always;
+      never = trans (number_never (reply_to s q)) answers.is_never;
+      undecided = trans (number_open (reply_to s q)) answers.is_open;
     }
 
 -- demands 2 and 3 of an accepted sheet
@@ -117,7 +118,7 @@ module _ {b facts₀ work₀ replies₀ facts' work' replies' : List ℕ} {r : �
         record {
           refused = ((λ z. absurd (omega (arith, z, kind))), (λ z. absurd (not_refused z)));
           consistent =
-              ((λ z. absurd (omega (arith, z, kind))), (λ z. absurd (contrary clashes_so (three.consistent.1 z.1))));
+              ((λ z. absurd (omega (arith, z, kind))), (λ z. absurd (both_ways _ (three.consistent.1 z.1) clashes_so)));
           clash = ((λ z. (is_accepted, three.clash.0 clashes_so)), (λ z. kind));
           derived = λ z. facts_told;
           least = λ z. rw (first, second) found;
@@ -133,7 +134,7 @@ module _ {b facts₀ work₀ replies₀ facts' work' replies' : List ℕ} {r : �
           refused = ((λ z. absurd (omega (arith, z, kind))), (λ z. absurd (not_refused z)));
           consistent = ((λ z. (is_accepted, three.consistent.0 fails_not)), (λ z. kind));
           clash =
-              ((λ z. absurd (omega (arith, z, kind))), (λ z. absurd (contrary (three.clash.1 z.1) fails_not)));
+              ((λ z. absurd (omega (arith, z, kind))), (λ z. absurd (both_ways _ fails_not (three.clash.1 z.1))));
           derived = λ z. facts_told;
           least = λ z. absurd (omega (arith, z, kind));
           replies = λ z k q at.

@@ -5,15 +5,16 @@ use lib.ListN.{length}
 use mathlib.Core.Bool.{Bool, true, not}
 use mathlib.Core.List.{List, [], ◌∷◌, ◌++◌}
 use mathlib.Core.Logic.{inl, inr}
-use mathlib.Core.Path.{◌≡◌, sym, ap, subst, ◌∙◌}
+use mathlib.Core.Path.{◌≡◌, sym, ap, ◌∙◌}
 use native.Mathlib.Omega.{arith}
-use Rattle.fields.specs.Tests.{same}
+use Rattle.std.proofs.lemmas.Bool.{both_ways}
+use Rattle.std.proofs.lemmas.Nat.{or_lt}
 use Rattle.fields.proofs.Choice.{is_same}
 use Rattle.rules.specs.Connectives.{◌or◌}
 use Rattle.rules.specs.declared.kinds.Kind.{Kind}
 use Rattle.rules.specs.Facts.{Holds, Within}
 use Rattle.rules.specs.Tables.{says, cell_at, facts}
-use Rattle.rules.proofs.Logic.{contrary, either_first, either_second, either_of}
+use Rattle.rules.proofs.Logic.{either_first, either_second, either_of}
 use Rattle.rules.proofs.Tables.{fact_row, fact_column, fact_said}
 use Rattle.table.specs.Cells.{with_cell, is_lacking}
 use Rattle.table.specs.declared.queue.Entry.{Entry}
@@ -22,12 +23,12 @@ use Rattle.table.proofs.Entries.{pushed_size, pushed_kept, pushed_entry, pushed_
 use Rattle.table.proofs.Stores.{store_there, store_elsewhere, store_shape, there_or}
 use Rattle.facts.specs.Additions.{Said, Added}
 use Rattle.facts.specs.Insertion.{Taking}
-use Rattle.facts.proofs.Joined.{joined_small, joined_says, says_already, gains}
+use Rattle.facts.proofs.Joined.{joined_says, gains}
 use Rattle.facts.proofs.Moving.{more_facts, fact_bound}
 
 -- what holds of a pair holds of the same pair by other names
 at_pair : (P : ℕ → ℕ → Type 0) {i j x y : ℕ} → i ≡ x → j ≡ y → P x y → P i j
-at_pair P {i} {j} {x} {y} e f p = subst (λ a. P a j) (sym e) (subst (λ b. P x b) (sym f) p)
+at_pair P e f p = rw (e, f) p
 
 module _ (n : ℕ) (s : State) (w x y : ℕ) (taking : Taking n s w x y) where
   abbrev old : ℕ
@@ -116,7 +117,7 @@ module _ (n : ℕ) (s : State) (w x y : ℕ) (taking : Taking n s w x y) where
               record {
                 shape =
                     store_shape n s.table x y (bit_or old w) taking.ready.shape taking.first taking.second
-                    (joined_small old w old_small taking.cell);
+                    (or_lt 2 old w old_small taking.cell);
                 grows = new_grows;
                 later = omega (arith, size);
                 kept = pushed_kept s.queue (entry x y);
@@ -143,7 +144,7 @@ module _ (n : ℕ) (s : State) (w x y cell : ℕ) (taking : Taking n s w x y) (e
     {lacks : Bool} (asked : lacks ≡ is_lacking cell w) (lacking : lacks ≡ true) where
   looked : bit_or (cell_at n s.table x y) w ≡ cell_at n s.table x y → ⊥
   unfolding is_lacking
-  looked none = contrary (rw e at (sym asked ∙ lacking)) (ap not (is_same _ _ none))
+  looked none = both_ways _ (ap not (is_same _ _ none)) (rw e at (sym asked ∙ lacking))
 
   pub take_room : length s.queue < queue_room
   take_room = has_room n s w x y taking looked

@@ -1,6 +1,6 @@
 -- Laws of the tests and of the choice by a test.
 use Prim.Native.Nat.{ℕ, ◌≤◌, ◌<◌}
-use mathlib.Core.Bool.{Bool, true, false, ◌||◌, true≢false, false≢true}
+use mathlib.Core.Bool.{Bool, true, false, false≢true}
 use mathlib.Core.Path.{◌≡◌, refl}
 use borrow.Author.Tests.{lt-ltb, le-ltb, eq-eqb, ne_eqb, ltb-true, ltb-false, eqb-true, eqb-false}
 use native.Mathlib.Omega.{arith}
@@ -48,19 +48,6 @@ chosen b x y e p = rw e p
 pub passed : {A : Type 0} {r : A} (b : Bool) (x y : A) → b ≡ false → r ≡ y → r ≡ pick b x y
 unfolding pick
 passed b x y e p = rw e p
-
--- a disjunction that fails fails on both sides, and one that holds holds on one
-pub or_left : (a b : Bool) → a || b ≡ false → a ≡ false
-or_left true b e = e
-or_left false b e = refl
-
-pub or_right : (a b : Bool) → a || b ≡ false → b ≡ false
-or_right true b e = absurd (true≢false e)
-or_right false b e = e
-
-pub or_cases : {C : Type 0} (a b : Bool) → a || b ≡ true → (a ≡ true → C) → (b ≡ true → C) → C
-or_cases true b e p q = p refl
-or_cases false b e p q = q e
 
 -- a choice of no bytes or k is at most k
 pub pick_most : (b : Bool) (k : ℕ) → pick b k 0 ≤ k

@@ -6,6 +6,7 @@ use mathlib.Core.List.{List}
 use mathlib.Core.Path.{◌≡◌}
 use lib.ListN.{length}
 use native.Mathlib.Omega.{arith}
+use Rattle.std.proofs.lemmas.Bool.{or_parts}
 use Rattle.fields.specs.declared.numbers.Cursor.{Cursor}
 use Rattle.fields.specs.declared.refusals.Refusal.{Refusal}
 use Rattle.fields.specs.Fields.{cursor}
@@ -13,7 +14,7 @@ use Rattle.fields.specs.Refusals.{bad_header_map, bad_variable_count, bad_count}
 use Rattle.fields.specs.Limits.{most_variables, most_items}
 use Rattle.fields.specs.Tests.{pick, has, same, less}
 use Rattle.fields.proofs.Chains.{Of, either, after_field}
-use Rattle.fields.proofs.Choice.{less_false, same_false, or_left, or_right, pick_most}
+use Rattle.fields.proofs.Choice.{less_false, same_false, pick_most}
 use Rattle.fields.proofs.Extents.{FieldSpans, Held, Where, if_spans, word_spans, judged_spans}
 use Rattle.headers.specs.declared.headers.Header.{Header}
 use Rattle.headers.specs.Headers.{header_map, variable_count, count_field, count_if, header_of}
@@ -48,8 +49,9 @@ few_items None h = omega arith
 counted : (n : ℕ) → bad_variable_count n ≡ false → (1 ≤ n) × (n ≤ most_variables)
 unfolding bad_variable_count
 counted n e =
-    let some = same_false n 0 (or_left _ (less most_variables n) e) in
-    let few = less_false most_variables n (or_right (same n 0) _ e) in
+    let parts = or_parts (same n 0) (less most_variables n) e in
+    let some = same_false n 0 parts.0 in
+    let few = less_false most_variables n parts.1 in
     (omega arith, few)
 
 pub header_spans : (s : List ℕ) → Of (HeaderSpans s) (header_of s)

@@ -3,17 +3,19 @@ use Rattle.std.specs.Prelude.{is_some, Ok, Err}
 use Prim.Native.Nat.{ℕ, ◌+◌, ◌≤◌, ◌<◌}
 use mathlib.Core.Bool.{false}
 use mathlib.Core.List.{List}
+use mathlib.Core.Logic.{⊎_elim}
 use mathlib.Core.Path.{◌≡◌}
 use borrow.Author.Tests.{not-false}
 use lib.ListN.{length, get_or}
 use native.Mathlib.Omega.{arith}
+use Rattle.std.proofs.lemmas.Bool.{or_cases, or_parts}
 use Rattle.fields.specs.declared.numbers.Cursor.{Cursor}
 use Rattle.fields.specs.declared.refusals.Place.{Place}
 use Rattle.fields.specs.Refusals.{bad_item_map, several_bits}
 use Rattle.fields.specs.Fields.{Read}
 use Rattle.fields.specs.Tests.{less, same, pick, has}
 use Rattle.fields.proofs.Chains.{Of, after_field, as_value}
-use Rattle.fields.proofs.Choice.{same_true, or_right, or_cases, pick_most}
+use Rattle.fields.proofs.Choice.{same_true, pick_most}
 use Rattle.fields.proofs.Extents.{Held, Below, judged_spans, variable_spans}
 use Rattle.items.specs.declared.items.Item.{Item}
 use Rattle.items.specs.Items.{map_field, item_at, fields_width, width, most}
@@ -24,10 +26,11 @@ pub one_bit : {C : Type 0} (map : ℕ) → bad_item_map Place.Question map ≡ f
     → (map ≡ 1 → C) → (map ≡ 2 → C) → (map ≡ 4 → C) → (map ≡ 8 → C) → C
 unfolding bad_item_map several_bits
 one_bit map e p₁ p₂ p₄ p₈ =
-    let e₁ = not-false _ (or_right (less 15 map) _ (or_right (same map 0) _ e)) in
-    or_cases (same map 1) _ e₁ (λ h. p₁ (same_true _ _ h)) λ e₂.
-    or_cases (same map 2) _ e₂ (λ h. p₂ (same_true _ _ h)) λ e₄.
-    or_cases (same map 4) _ e₄ (λ h. p₄ (same_true _ _ h)) λ h. p₈ (same_true _ _ h)
+    let e₁ = not-false _ (or_parts (less 15 map) _ (or_parts (same map 0) _ e).1).1 in
+    ⊎_elim (λ h. p₁ (same_true _ _ h)) (λ e₂.
+    ⊎_elim (λ h. p₂ (same_true _ _ h)) (λ e₄.
+    ⊎_elim (λ h. p₄ (same_true _ _ h)) (λ h. p₈ (same_true _ _ h))
+    (or_cases (same map 4) _ e₄)) (or_cases (same map 2) _ e₂)) (or_cases (same map 1) _ e₁)
 
 -- no lawful map makes an item longer than the longest
 width_record : (map : ℕ) → width map ≤ 9

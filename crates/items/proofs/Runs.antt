@@ -4,7 +4,7 @@ use Prim.Native.Nat.{ℕ, zero, suc, ◌+◌, ◌*◌, ◌-◌, ◌<◌, ◌≤�
 use mathlib.Core.List.{List, [], ◌∷◌}
 use mathlib.Core.Path.{◌≡◌, refl, sym, ap, ◌∙◌}
 use lib.ListN.{length}
-use native.Mathlib.Nat.{suc-mul}
+use native.Mathlib.Nat.{suc-mul, sub-add-eq}
 use native.Mathlib.Numerals.{sub-one}
 use native.Mathlib.Omega.{arith}
 use Rattle.fields.specs.declared.fields.Field.{Field}
@@ -16,10 +16,6 @@ use Rattle.fields.specs.Fields.{Read}
 use Rattle.items.specs.declared.items.Item.{Item}
 use Rattle.items.specs.Items.{item_at, items_end, items_of, most}
 use Rattle.items.proofs.Lawful.{item_spans, width_most}
-
--- one more was read, and one fewer is left
-pub fewer : (count i : ℕ) → count - (i + 1) ≡ count - i - 1
-fewer count i = omega arith
 
 module _ (place : Place) (s : List ℕ) (n : ℕ) (c : Cursor) where
   pub run_over : (left : ℕ) → left ≤ 0 → items_end left place s n c ≡ Ok c
@@ -36,7 +32,7 @@ module _ (place : Place) (s : List ℕ) (n : ℕ) (c : Cursor) where
   -- the same by how many were read
   pub run_step : (count i : ℕ) (f : Field Item) → i < count → item_at place s n c ≡ Ok f
       → items_end (count - (i + 1)) place s n f.next ≡ items_end (count - i) place s n c
-  run_step count i f h e = rw (fewer count i) (sym (run_on (count - i) f (omega arith) e))
+  run_step count i f h e = rw (sub-add-eq count i 1) (sym (run_on (count - i) f (omega arith) e))
 
   pub run_refused : (left : ℕ) (r : Refusal) → 0 < left → item_at place s n c ≡ Err r
       → items_end left place s n c ≡ Err r
@@ -79,13 +75,10 @@ run_spans place s n (suc k) c =
       inside = λ b. h.inside r.inside;
     }
 
-never : {r : Refusal} {end : Cursor} → Err r ≡ Ok end → ⊥
-never e = let z : ◌≡◌ {A = ℕ} 0 1 = cc in omega arith
-
 -- a run that ends at a cursor refuses none of its items
 pub run_reads : (place : Place) (s : List ℕ) (n : ℕ) (c end : Cursor) (left : ℕ) (r : Refusal) → 0 < left
     → items_end left place s n c ≡ Ok end → item_at place s n c ≡ Err r → ⊥
-run_reads place s n c end left r h e i = never (sym (run_refused place s n c left r h i) ∙ e)
+run_reads place s n c end left r h e i = cc (run_refused place s n c left r h i)
 
 -- the first is read, and the rest ends there too
 pub run_next : {C : Type 0} (place : Place) (s : List ℕ) (n : ℕ) (c end : Cursor) (left : ℕ) → 0 < left

@@ -6,16 +6,20 @@ use lib.Seq.{get_or-set_same, get_or-set_other}
 use mathlib.Core.Bool.{Bool, true, false, not, true≢false, false≢true}
 use mathlib.Core.List.Memᴰ
 use mathlib.Core.List.{List, [], ◌∷◌, ◌++◌}
+use mathlib.Core.Logic.{⊎_elim}
 use mathlib.Core.Path.{◌≡◌, refl, sym, ap, subst, ◌∙◌}
 use native.Mathlib.Omega.{arith}
+use Rattle.std.proofs.lemmas.Bool.{false_from_ne_true, cases_eq}
 use Rattle.fields.specs.Fields.{label}
 use Rattle.fields.specs.Limits.{most_variables}
 use Rattle.fields.specs.Tests.{same, pick}
 use Rattle.fields.proofs.Choice.{is_same, not_same, same_true, same_false}
 use Rattle.items.specs.declared.items.Statement.{Statement}
 use Rattle.rules.specs.Stated.{labelling, Stated}
+use Rattle.rules.specs.declared.kinds.Kind.{Kind}
+use Rattle.rules.specs.Facts.{fact}
 use Rattle.rules.specs.Clashes.{labels_differ}
-use Rattle.rules.proofs.Logic.{both, first_of_and, second_of_and, decided, refuted, same_tests}
+use Rattle.rules.proofs.Logic.{both, first_of_and, second_of_and, decided, same_tests}
 use Rattle.rules.proofs.Some.{by_labelling, one_labelling}
 use Rattle.rules.proofs.More.{still, last_stated, stated_of}
 use Rattle.rules.proofs.Clashing.{differ_by, differ_of}
@@ -23,6 +27,11 @@ use Rattle.labels.specs.declared.spread.Spread.{Spread}
 use Rattle.labels.specs.Spreads.{has_any, is_several, is_only, has_other, differ, with_labels, spread_at}
 use Rattle.labels.specs.Labels.{TwoLabels, LabelsAt, LabelsStand, spreads_with, NoLabelling, other_stated}
 use Rattle.labels.specs.Labels.{OtherTold, DifferTold}
+
+-- a fact states no label
+pub no_label : (kind : Kind) (i j : ℕ) → NoLabelling (fact kind i j)
+no_label Kind.Ordered i j = tt
+no_label Kind.Compatible i j = tt
 
 -- another label, by its test
 pub other_by : {st : List Statement} {j a b : ℕ} → Stated st (labelling j b) → (a ≡ b → ⊥) → other_stated st j a ≡ true
@@ -40,15 +49,15 @@ other_of st j a p next =
 -- the labels of j tell whether another than a is stated
 pub other_told : {st : List Statement} {j : ℕ} {s : Spread} → LabelsAt st j s → (a : ℕ)
     → has_other s a ≡ other_stated st j a
-other_told {st} {j} (LabelsAt.none none) a = sym (refuted _ λ p. other_of st j a p λ b s d. none b s)
+other_told {st} {j} (LabelsAt.none none) a = sym (false_from_ne_true _ λ p. other_of st j a p λ b s d. none b s)
 other_told {st} {j} (LabelsAt.one {a = b} one) a =
     decided (same b.0 a)
-    (λ p. rw p (sym (refuted _ λ q. other_of st j a q λ c s d. d (sym (same_true _ _ p) ∙ sym (one.only c s)))))
+    (λ p. rw p (sym (false_from_ne_true _ λ q.
+    other_of st j a q λ c s d. d (sym (same_true _ _ p) ∙ sym (one.only c s)))))
     (λ p. rw p (sym (other_by one.stated (λ q. same_false _ _ p (sym q)))))
 other_told {st} {j} (LabelsAt.several two) a =
-    decided (same a two.first)
-    (λ p. sym (other_by two.second_stated λ q. two.differs (sym (same_true _ _ p) ∙ q)))
-    (λ p. sym (other_by two.first_stated (same_false _ _ p)))
+    ⊎_elim (λ p. sym (other_by two.second_stated λ q. two.differs (sym p ∙ q)))
+    (λ p. sym (other_by two.first_stated p)) (cases_eq a two.first)
 
 -- and whether a is, where it is the only one
 pub only_stated : {st : List Statement} {j a : ℕ} {s : Spread} → LabelsAt st j s → is_only s a ≡ true
@@ -72,7 +81,7 @@ several_two (LabelsAt.several two) e = two
 -- a variable without a label differs from none
 pub none_differ : {st : List Statement} {i : ℕ} {s : Spread} (j : ℕ) → LabelsAt st i s → has_any s ≡ false
     → labels_differ st i j ≡ false
-none_differ {st} {i} j (LabelsAt.none none) e = refuted _ λ p. differ_of st i j p λ a b s s' d. none a s
+none_differ {st} {i} j (LabelsAt.none none) e = false_from_ne_true _ λ p. differ_of st i j p λ a b s s' d. none a s
 none_differ j (LabelsAt.one one) e = absurd (true≢false e)
 none_differ j (LabelsAt.several two) e = absurd (true≢false e)
 
@@ -85,7 +94,7 @@ two_differ {st} {i} {j} {b} two here =
 -- the labels of i and of j tell whether two differ
 module _ {st : List Statement} {i j : ℕ} where
   any_told : {s : Spread} → TwoLabels st i → LabelsAt st j s → has_any s ≡ labels_differ st i j
-  any_told two (LabelsAt.none none) = sym (refuted _ λ p. differ_of st i j p λ a b s s' d. none b s')
+  any_told two (LabelsAt.none none) = sym (false_from_ne_true _ λ p. differ_of st i j p λ a b s s' d. none b s')
   any_told two (LabelsAt.one one) = sym (two_differ two one.stated)
   any_told two (LabelsAt.several two') = sym (two_differ two two'.first_stated)
 
@@ -184,12 +193,12 @@ module _ {n : ℕ} {st : List Statement} {spreads : List Spread} (stand : Labels
       record {
         size = length-set spreads i more ∙ size;
         at = λ x h.
-            decided (same x i)
-            (λ p. let e = same_true x i p in
+            ⊎_elim
+            (λ e.
             rw (e, get_or-set_same spreads i more Spread.Nothing (omega arith)) (noted_at a (stand.at i (rw (← e) h))))
-            (λ p. let d = same_false x i p in
+            (λ d.
             rw (get_or-set_other spreads i x more Spread.Nothing d)
-            (kept_at _ (stand.at x h) λ b q. absurd (d (ap subject_of q))));
+            (kept_at _ (stand.at x h) λ b q. absurd (d (ap subject_of q)))) (cases_eq x i);
       }
 
 -- what is told by the spreads of the variables

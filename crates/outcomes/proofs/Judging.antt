@@ -5,10 +5,11 @@ use mathlib.Core.Bool.{◌||◌}
 use mathlib.Core.List.{List}
 use mathlib.Core.Path.{◌≡◌, refl}
 use native.Mathlib.Omega.{arith}
+use Rattle.std.proofs.lemmas.Bool.{or_parts}
 use Rattle.fields.specs.declared.refusals.Refusal.{Refusal}
 use Rattle.fields.specs.Refusals.{short_table, short_replies}
 use Rattle.fields.specs.Tests.{less, pick}
-use Rattle.fields.proofs.Choice.{less_false, or_left, or_right}
+use Rattle.fields.proofs.Choice.{less_false}
 use Rattle.headers.specs.Headers.{table_size, reply_count}
 use Rattle.sheet.specs.declared.whole.Accepted.{Accepted}
 use Rattle.sheet.specs.Sheets.{read_sheet, longest}
@@ -35,11 +36,12 @@ module _ (b : List ℕ) (facts work replies : ℕ) where
   buffers_judged a e =
       decided (less facts (table_size a.header) || less work (table_size a.header)) (λ p. rw p (omega arith)) λ p.
       decided (less replies (reply_count a.header)) (λ q. rw (p, q) (omega arith)) λ q.
+      let fit = or_parts (less facts (table_size a.header)) _ p in
       rw (p, q)
       record {
         accepted = e;
-        facts_fit = less_false _ _ (or_left (less facts (table_size a.header)) _ p);
-        work_fits = less_false _ _ (or_right (less facts (table_size a.header)) _ p);
+        facts_fit = less_false _ _ fit.0;
+        work_fits = less_false _ _ fit.1;
         replies_fit = less_false _ _ q;
       }
 

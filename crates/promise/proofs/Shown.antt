@@ -5,6 +5,7 @@ use lib.ListN.{length, get_or, length-map}
 use mathlib.Core.List.{List, [], ◌∷◌, ◌++◌, map}
 use mathlib.Core.Logic.{◌↔◌}
 use mathlib.Core.Option.{some}
+use mathlib.Core.Logic.Iff.{trans}
 use mathlib.Core.Path.{◌≡◌, refl, ap, subst, ◌∙◌}
 use native.Mathlib.Omega.{arith}
 use Rattle.std.proofs.lemmas.Slice.{drop-append-drop}
@@ -32,14 +33,14 @@ use Rattle.promise.specs.Promise.{IsAccepted, IsRefused, question_in, RefusalTol
 
 -- an answer of one kind is not of another
 pub never_accepted : {r : Refusal} → IsAccepted (Err r) → ⊥
-never_accepted (a, e) = let z : ◌≡◌ {A = ℕ} 0 1 = cc in omega arith
+never_accepted (a, e) = cc
 
 pub never_refused : {a : Accepted} → IsRefused (Ok a) → ⊥
-never_refused (r, e) = let z : ◌≡◌ {A = ℕ} 0 1 = cc in omega arith
+never_refused (r, e) = cc
 
 -- what holds of every question holds of question k
 pub at_question : (P : Query → Type 0) (qs : List Query) (k : ℕ) (q : Query) → All P qs → question_in qs k ≡ some q → P q
-at_question P [] k q all e = let z : ◌≡◌ {A = ℕ} 0 1 = cc in absurd (omega arith)
+at_question P [] k q all e = absurd (cc)
 at_question P (x ∷ qs) zero q all e = let same : x ≡ q = cc in subst P same all.0
 at_question P (x ∷ qs) (suc k) q all e = at_question P qs k q all.1 e
 
@@ -50,14 +51,14 @@ question_there (x ∷ qs) zero h = (x, refl)
 question_there (x ∷ qs) (suc k) h = question_there qs k (omega arith)
 
 pub question_below : (qs : List Query) (k : ℕ) (q : Query) → question_in qs k ≡ some q → k < length qs
-question_below [] k q e = let z : ◌≡◌ {A = ℕ} 0 1 = cc in absurd (omega arith)
+question_below [] k q e = absurd (cc)
 question_below (x ∷ qs) zero q e = omega arith
 question_below (x ∷ qs) (suc k) q e = let h = question_below qs k q e in omega arith
 
 -- its reply is the byte at k
 pub reply_at : (f : Query → Reply) (rest : List ℕ) (qs : List Query) (k : ℕ) (q : Query)
     → question_in qs k ≡ some q → get_or (map reply_number (map f qs) ++ rest) k 0 ≡ reply_number (f q)
-reply_at f rest [] k q e = let z : ◌≡◌ {A = ℕ} 0 1 = cc in absurd (omega arith)
+reply_at f rest [] k q e = absurd (cc)
 reply_at f rest (x ∷ qs) zero q e = let same : x ≡ q = cc in ap (λ y. reply_number (f y)) same
 reply_at f rest (x ∷ qs) (suc k) q e = reply_at f rest qs k q e
 
@@ -92,9 +93,6 @@ small_number Fault.VariableRange = omega arith
 small_number Fault.Trailing = omega arith
 small_number Fault.ShortTable = omega arith
 small_number Fault.ShortReplies = omega arith
-
-pub through : {A B C : Type 0} → A ↔ B → B ↔ C → A ↔ C
-through p q = ((λ a. q.0 (p.0 a)), (λ c. p.1 (q.1 c)))
 
 always_supported : (s : Sheet) (q : Query) → (reply_to s q ≡ Reply.Always) ↔ Supported s q
 always_supported s (holds x) = (replied s (holds x)).always
@@ -183,7 +181,7 @@ module _ {b facts work replies facts' work' replies' : List ℕ} {r : ℕ}
   by_support kind k q at =
       by_case (λ x e z. absurd (omega arith))
       (λ a e is z. rw (reply_byte a e is k q at)
-      (through (number_always (reply_to (sheet_of b) q)) (always_supported (sheet_of b) q)))
+      (trans (number_always (reply_to (sheet_of b) q)) (always_supported (sheet_of b) q)))
       (λ a clash e is z. absurd (omega arith))
 
   pub refused_apart : (q : Refusal) → read ≡ Err q → IsAccepted read → ⊥

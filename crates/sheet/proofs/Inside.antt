@@ -4,6 +4,7 @@ use Prim.Native.Nat.{ℕ, ◌-◌, ◌<◌, ◌≤◌}
 use mathlib.Core.List.{List, []}
 use mathlib.Core.Path.{◌≡◌, refl}
 use lib.ListN.{length, take, drop}
+use native.Mathlib.Nat.{sub_self}
 use native.Mathlib.Omega.{arith}
 use Rattle.fields.specs.declared.numbers.Cursor.{Cursor}
 use Rattle.fields.specs.declared.refusals.Place.{Place}
@@ -13,9 +14,6 @@ use Rattle.items.specs.declared.items.Item.{Item}
 use Rattle.items.specs.Items.{item_at, width}
 use Rattle.items.proofs.Lawful.{item_spans}
 use Rattle.sheet.specs.Readings.{end_of}
-
-nothing_over : (n : ℕ) → n - n ≡ 0
-nothing_over n = omega arith
 
 module _ (s : List ℕ) (n : ℕ) (c : Cursor) where
   inside_of : (read : Read Item) → item_at Place.Record s n c ≡ read → c.at < (end_of read c).at
@@ -39,7 +37,7 @@ module _ (s : List ℕ) (n : ℕ) (c : Cursor) where
 
   part_of : (read : Read Item) → part read ≡ take ((end_of read c).at - c.at) (drop c.at s)
   part_of (Ok f) = refl
-  part_of (Err r) = rw (nothing_over c.at) refl
+  part_of (Err r) = rw (sub_self c.at) refl
 
   module _ {end : ℕ} (ends : end ≡ (end_of (item_at Place.Record s n c) c).at) where
     -- where it stays there is none, whatever would be made of it

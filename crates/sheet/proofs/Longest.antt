@@ -1,9 +1,11 @@
 -- A sheet of the longest length is accepted: 1,024 records with all fields and 1,024 questions i[f]j.
+use Rattle.std.specs.List.{range_with_len}
 use Rattle.std.specs.Prelude.{Ok, Err}
+use Rattle.std.proofs.lemmas.List.FromFn.{length-map-range_with_len, get_or-map-range_with_len}
 use Prim.Native.Nat.{ℕ, zero, suc, ◌+◌, ◌*◌, ◌-◌, ◌%◌, ◌≤◌, ◌<◌}
 use mathlib.Core.Bool.{Bool, true, false}
-use mathlib.Core.List.{List, [], ◌∷◌}
-use mathlib.Core.Path.{◌≡◌, refl, sym, ap, ◌∙◌}
+use mathlib.Core.List.{List, map}
+use mathlib.Core.Path.{◌≡◌, refl, sym, ◌∙◌}
 use lib.ListN.{length, get_or}
 use native.Mathlib.Nat.{suc-mul}
 use native.Mathlib.Omega.{arith}
@@ -22,22 +24,6 @@ use Rattle.items.specs.declared.items.Item.{Item}
 use Rattle.items.specs.Items.{map_field, edge_field, label_field, fields_at, item_at, items_end, fields_width, width}
 use Rattle.items.proofs.Lawful.{item_spans}
 use Rattle.sheet.specs.Sheets.{accepted, body_of, read_sheet, longest}
-
--- so many values of f, from i on
-tabled : (ℕ → ℕ) → ℕ → ℕ → List ℕ
-tabled f zero i = []
-tabled f (suc k) i = f i ∷ tabled f k (suc i)
-
-tabled_length : (f : ℕ → ℕ) (k i : ℕ) → length (tabled f k i) ≡ k
-unfolding tabled
-tabled_length f zero i = refl
-tabled_length f (suc k) i = ap suc (tabled_length f k (suc i))
-
-tabled_at : (f : ℕ → ℕ) (k i j : ℕ) → j < k → get_or (tabled f k i) j 0 ≡ f (i + j)
-unfolding tabled
-tabled_at f zero i j h = absurd (omega arith)
-tabled_at f (suc k) i zero h = ap f (omega arith)
-tabled_at f (suc k) i (suc j) h = tabled_at f k (suc i) j (omega arith) ∙ ap f (omega arith)
 
 -- a field that lies inside the sheet is found, and a variable field whose byte is below n
 abbrev There : {T : Type 0} → ℕ → Cursor → Read T → Type 0
@@ -300,15 +286,14 @@ module _ (s : List ℕ) (long : length s ≡ longest) (byte : (o : ℕ) → o < 
 
 -- the longest sheet
 pub longest_sheet : List ℕ
-longest_sheet = tabled longest_byte longest 0
+longest_sheet = map longest_byte (range_with_len 0 longest)
 
 pub longest_length : length longest_sheet ≡ longest
 unfolding longest_sheet
-longest_length = tabled_length longest_byte longest 0
+longest_length = length-map-range_with_len longest_byte 0 longest
 
 pub longest_accepted : (asked : Cursor)
     × (read_sheet longest_sheet ≡ Ok (accepted (header 7 128 1024 1024 (cursor 6)) asked))
 unfolding longest_sheet
 longest_accepted =
-    accepted_lem _ (tabled_length longest_byte longest 0)
-    (λ o h. tabled_at longest_byte longest 0 o h ∙ ap longest_byte (omega arith))
+    accepted_lem _ longest_length (λ o h. get_or-map-range_with_len longest_byte 0 longest o o 0 h (omega arith))

@@ -5,6 +5,7 @@ use mathlib.Core.Bool.{Bool}
 use mathlib.Core.List.{List, [], ◌∷◌, ◌++◌}
 use mathlib.Core.Option.{none, some}
 use mathlib.Core.Path.{◌≡◌, refl, sym, ◌∙◌}
+use native.Mathlib.Nat.{sub-add-eq}
 use native.Mathlib.Omega.{arith}
 use Rattle.fields.specs.declared.fields.Field.{Field}
 use Rattle.fields.specs.declared.numbers.Cursor.{Cursor}
@@ -18,7 +19,7 @@ use Rattle.items.specs.declared.items.Item.{Item}
 use Rattle.items.specs.declared.items.Statement.{Statement}
 use Rattle.items.specs.Items.{item_at, items_of}
 use Rattle.items.specs.Statements.{ordering_of, compatibility_of, selection_of, labelling_of, statements_of}
-use Rattle.items.proofs.Runs.{fewer, items_over, items_on}
+use Rattle.items.proofs.Runs.{items_over, items_on}
 use Rattle.sheet.specs.declared.whole.Accepted.{Accepted}
 use Rattle.sheet.specs.Sheets.{read_sheet, sheet_of, sheet_at}
 use Rattle.sheet.proofs.Theorems.{accepted_sheet}
@@ -31,7 +32,7 @@ use Rattle.statements.specs.Stated.{label_in, stated_from}
 module _ (test : ℕ → Bool) (ys : List Statement) where
   found_first : (xs : List Statement) (a : ℕ) → first_label xs test ≡ some a → first_label (xs ++ ys) test ≡ some a
   unfolding first_label pick
-  found_first [] a e = let z : ◌≡◌ {A = ℕ} 0 1 = cc in absurd (omega arith)
+  found_first [] a e = absurd (cc)
   found_first (Statement.Ordering i j ∷ xs) a e = found_first xs a e
   found_first (Statement.Compatibility i j ∷ xs) a e = found_first xs a e
   found_first (Statement.Selection i f j ∷ xs) a e = found_first xs a e
@@ -46,7 +47,7 @@ module _ (test : ℕ → Bool) (ys : List Statement) where
   none_first (Statement.Selection i f j ∷ xs) e = none_first xs e
   none_first (Statement.Labelling i b ∷ xs) e =
       decided (test i.0)
-      (λ p. let e' : some b.0 ≡ none = rw p at e in let z : ◌≡◌ {A = ℕ} 0 1 = cc in absurd (omega arith))
+      (λ p. let e' : some b.0 ≡ none = rw p at e in absurd (cc))
       (λ p. rw p (none_first xs (rw p at e)))
 
 -- one record: its label where it states one, and for this variable
@@ -119,7 +120,7 @@ pub label_passed : (s : List ℕ) (n count k : ℕ) (cursor : Cursor) (i : ℕ) 
     → stated_label (statements_of f.value) i ≡ none
     → stated_label (stated_from (count - (k + 1)) s n f.next) i ≡ stated_label (stated_from (count - k) s n cursor) i
 label_passed s n count k cursor i f more e p =
-    rw (fewer count k) (sym (label_later s n (count - k) cursor i (omega arith) f e p))
+    rw (sub-add-eq count k 1) (sym (label_later s n (count - k) cursor i (omega arith) f e p))
 
 pub ruleset label_from = (labels_over, label_found, label_passed, labels_refused)
 

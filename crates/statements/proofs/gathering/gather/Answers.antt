@@ -1,6 +1,6 @@
 -- One record after another is put into the lists.
 use Rattle.std.proofs.Common.{◌-◌, ◌≡◌, sym, arith}
-use Rattle.items.proofs.Runs.{fewer}
+use native.Mathlib.Nat.{sub-add-eq}
 use Rattle.statements.proofs.Records.{gathers_start, gathers_put, gathers_next, none_refused, gathers_end}
 use Rattle.statements.proofs.gathering.gather.Goals as goal
 
@@ -16,7 +16,7 @@ put_record-requires c =
 
 pub loop-preserved : goal.loop-preserved
 loop-preserved c =
-    rw (fewer c.args.accepted.header.records c.loop.counter)
+    rw (sub-add-eq c.args.accepted.header.records c.loop.counter 1)
     (gathers_next c.loop.invariant (omega (arith, c.loop-test.true)) (sym c.in-Ok.ensures) c.put_record.ensures)
 
 pub returns-in_default : goal.returns-in_default
