@@ -162,10 +162,7 @@ fn try_where_labels_differ(
         (Consistent growth.old.n (table_of closed.now) groups.old (spreads_of closed.now)) q result }
     ensures restored { Restored growth.old growth.new groups.old groups.new }
 {
-    if closed.spread.can_clash(q) {
-        return try_statement(closed, growth, groups, q);
-    }
-    false
+    closed.spread.can_clash(q) && try_statement(closed, growth, groups, q)
 }
 
 // Whether closed statements clash with q behind them, tried in a copy of their table.
@@ -177,8 +174,5 @@ pub fn trial(closed: &Closed, growth: &mut Growth, groups: &mut Groups, q: State
         (Standing growth.old.n (table_of closed.now) groups.old (spreads_of closed.now)) q result }
     ensures restored { Restored growth.old growth.new groups.old groups.new }
 {
-    if closed.clash.is_some() {
-        return true;
-    }
-    try_where_labels_differ(closed, growth, groups, q)
+    closed.clash.is_some() || try_where_labels_differ(closed, growth, groups, q)
 }

@@ -23,7 +23,7 @@ use sheet::{Accepted, Refusal};
 use statements::{Lists, gather};
 use table::{Queue, Table};
 
-// The outcome of a refusal. Narrowed by `as`: no offset is beyond the longest sheet.
+// The outcome of a refusal. Narrowed by `as`, and no `From`: it asks that the offset is not beyond the longest sheet.
 fn refused(refusal: Refusal) -> Outcome
     requires { refusal.at ≤ longest }
     ensures { result ≡ of_refusal refusal }
@@ -88,17 +88,15 @@ fn answer(
     ensures replied { replies.new
         ≡ where_consistent (verdict_by closed.now.clash) (map reply_number (replies_of (sheet_of sheet.now))) replies.old }
 {
-    match Verdict::from(closed.clash) {
-        Verdict::Clash(_) => (),
-        Verdict::Consistent => {
-            let mut growth = Growth {
-                cells: work,
-                n: closed.table.n,
-                queue,
-            };
-            reply_in_copy(sheet, accepted, closed, &mut growth, groups, replies);
-        }
-    }
+    let Verdict::Consistent = Verdict::from(closed.clash) else {
+        return;
+    };
+    let mut growth = Growth {
+        cells: work,
+        n: closed.table.n,
+        queue,
+    };
+    reply_in_copy(sheet, accepted, closed, &mut growth, groups, replies);
 }
 
 // The check of an accepted sheet, on buffers of exactly the size in use.

@@ -89,18 +89,15 @@ impl Growth<'_> {
             (state_of self.old) (state_of self.new) }
         ensures same { IsSame self.old self.new }
     {
-        // a growth of its own is kept in registers while it takes the row
-        let mut growth = Growth {
-            cells: self.cells,
-            n: self.n,
-            queue: self.queue,
-        };
+        // a growth of its own: what it lends is kept in registers while it takes the row
+        let (cells, n, queue) = (&mut *self.cells, self.n, &mut *self.queue);
+        let mut growth = Growth { cells, n, queue };
         for y in 0..growth.n {
             growth.take_pair(row[y], x, y);
         }
     }
 
-    // Each variable that the column marks takes the row.
+    // Each variable that the column marks takes the row. Fixed memory, with no heap: the first n of both are in use.
     pub(crate) fn take_rows(
         &mut self,
         column: &[bool; MOST_VARIABLES],

@@ -13,7 +13,8 @@ use rules::Kind;
 use table::{BOTH, Kinds, NEITHER};
 
 impl Growth<'_> {
-    // Whether x is below u and lacks w at v. No struct of w, u and v: it would serve this one and the next alone.
+    // Whether x is below u and lacks w at v. No `Pair` for w, u and v, though insert and all it calls are handed the three:
+    // its variables would narrow what insert takes, which is any number.
     #[tactic(auto, using(crate::proofs::Inserting::marks))]
     fn mark(&self, w: Kinds, u: usize, v: usize, x: usize) -> bool
         requires below { Cell self.now.n self.now.cells.now x u }
@@ -23,7 +24,7 @@ impl Growth<'_> {
         self.look(x, u).says(Kind::Ordered) && self.look(x, v).lacks(w)
     }
 
-    // Marks what is below u and lacks w at v.
+    // Marks what is below u and lacks w at v. Fixed memory, with no heap: the first n are in use, here and in the row.
     fn read_column(&self, w: Kinds, u: usize, v: usize) -> [bool; MOST_VARIABLES]
         requires { Looking self.now.n self.now.cells.now u v }
         ensures { Columns self.now.n self.now.cells.now w.0 u v result }

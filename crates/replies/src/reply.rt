@@ -21,12 +21,12 @@ fn reply_statement(closed: &Closed, growth: &mut Growth, groups: &mut Groups, x:
     ensures restored { Restored growth.old growth.new groups.old groups.new }
 {
     if supports(closed.table, closed.selections, closed.labels, x) {
-        return Reply::Always;
+        Reply::Always
+    } else if trial(closed, growth, groups, x) {
+        Reply::Never
+    } else {
+        Reply::Open
     }
-    if trial(closed, growth, groups, x) {
-        return Reply::Never;
-    }
-    Reply::Open
 }
 
 // The reply to a question; table and groups are then as they were.

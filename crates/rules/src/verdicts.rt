@@ -1,4 +1,5 @@
-// The verdict on a sheet. `Option<Clash>` is no plainer: each match would have to know that `None` means consistent.
+// The verdict on a sheet, by the words of the format. `Option<Clash>`, of which it is made, says whether two labels clash; as
+// a verdict it would be no plainer: where outcome, second table and replies go by it, a line would have to say what none is.
 ghost use Rattle.std.specs.Prelude.{◌≡◌};
 ghost use Rattle.rules.specs.Verdicts.{verdict_by};
 

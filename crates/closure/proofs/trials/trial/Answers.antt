@@ -8,12 +8,13 @@ use Rattle.closure.proofs.trials.trial.Goals as goal
 pub returns-then-is_some-clause-tried : goal.returns-then-is_some-clause-tried
 returns-then-is_some-clause-tried c =
     let closed = c.args.closed.now in
-    clash_stays
+    rw c.if-is_some.true
+    (clash_stays
     (subst (λ n. ClashTold n (table_of closed) (spreads_of closed) closed.clash) c.requires.sizes c.requires.told.clash)
-    _ c.requires.asking.names (cc)
+    _ c.requires.asking.names (cc))
 
-pub returns-clause-tried : goal.returns-clause-tried
-returns-clause-tried c =
+pub returns-else-is_some-clause-tried : goal.returns-else-is_some-clause-tried
+returns-else-is_some-clause-tried c =
     let closed = c.args.closed.now in
     all_told
     (subst (λ n. ClashTold n (table_of closed) (spreads_of closed) closed.clash) c.requires.sizes c.requires.told.clash)

@@ -2,7 +2,8 @@
 use Rattle.closure.proofs.Questions.{skip_where}
 use Rattle.closure.proofs.trials.try_where_labels_differ.Goals as goal
 
-pub returns-clause-tried : goal.returns-clause-tried
-returns-clause-tried c =
-    skip_where _ c.requires.sizes c.requires.told.spread c.requires.asking.names c.can_clash.ensures
-    c.if-can_clash.false
+pub returns-else-can_clash-clause-tried : goal.returns-else-can_clash-clause-tried
+returns-else-can_clash-clause-tried c =
+    rw c.if-can_clash.false
+    (skip_where _ c.requires.sizes c.requires.told.spread c.requires.asking.names c.can_clash.ensures
+    c.if-can_clash.false)

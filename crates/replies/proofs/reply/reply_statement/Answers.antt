@@ -11,7 +11,7 @@ returns-then-trial-clause-told c =
     never_told c.requires.replying.sizes _ _ c.supports.ensures c.if-supports.false c.trial.ensures.tried
     c.if-trial.true
 
-pub returns-clause-told : goal.returns-clause-told
-returns-clause-told c =
+pub returns-else-trial-clause-told : goal.returns-else-trial-clause-told
+returns-else-trial-clause-told c =
     open_told c.requires.replying.sizes _ _ c.supports.ensures c.if-supports.false c.trial.ensures.tried
     c.if-trial.false
