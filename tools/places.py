@@ -1,5 +1,9 @@
 #!/usr/bin/env python3
-"""Counts the places in src/ that docs/DESIGN-PASS.md is about, point by point: `python3 tools/places.py [--list]`."""
+"""Counts the places in src/ that docs/DESIGN-PASS.md is about, point by point: `python3 tools/places.py [--list]`.
+
+Numbers for kinds, parallel arrays and lengths are known by the names that they had when the work began, so another name would
+hide one: they were looked for by reading, too.
+"""
 import glob
 import re
 import sys
@@ -68,7 +72,7 @@ def places():
         '1a enum of the shape of Option or Result', '1b flag or number parameter for a kind or a choice',
         '1c number told for a kind or a refusal', '1d field or element that a flag or a count says whether to read',
         '2 functions that differ in names, types or constants alone', '3 loop that counts by hand',
-        '4a conversion or text by hand', '4b widening by `as`',
+        '4a conversion or text by hand', '4b conversion by `as`',
         '5a function of more than eight parameters', '5b function of five to eight parameters',
         '6a parameter or local that is one of parallel arrays', '6b length or end beside a buffer',
         '6c two numbers packed into one',
@@ -101,8 +105,8 @@ def places():
                     found['3 loop that counts by hand'].append(where)
             if name in ('number', 'told', 'word', 'verdict_of', 'wide', 'word_of', 'is_clash', 'eq', 'fmt_text'):
                 found['4a conversion or text by hand'].append(where)
-            for cast in re.findall(r'\bas (?:usize|u64|u32|u16)\b', inner):
-                found['4b widening by `as`'].append(f'{where} {cast}')
+            for cast in re.findall(r'\bas (?:usize|u64|u32|u16|u8)\b', inner):
+                found['4b conversion by `as`'].append(f'{where} {cast}')
             if re.search(r'if (alike|turned|stands)\b', inner):
                 found['7 choice of a step by a flag'].append(where)
             if re.search(r'\* 256 \+|/ 256|% 256\)', inner):
