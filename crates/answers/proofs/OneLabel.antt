@@ -5,6 +5,7 @@ use mathlib.Core.Bool.{Bool, true, false, ◌&&◌}
 use mathlib.Core.List.{List, [], ◌∷◌, ◌++◌}
 use mathlib.Core.Path.{◌≡◌, sym, ap, subst, ◌∙◌}
 use Rattle.std.specs.List.{list_any, range_with_len}
+use Rattle.std.proofs.lemmas.Bool.{both_ways, false_from_ne_true}
 use Rattle.items.specs.declared.items.Statement.{Statement}
 use Rattle.items.specs.Statements.{Names, AllName}
 use Rattle.rules.specs.Connectives.{◌and◌}
@@ -14,7 +15,7 @@ use Rattle.rules.specs.Facts.{Relation, fact, Closed}
 use Rattle.rules.specs.Tables.{facts}
 use Rattle.rules.specs.Derived.{derived, facts_of}
 use Rattle.rules.specs.Clashes.{labels_differ, clashes_at, clashes}
-use Rattle.rules.proofs.Logic.{both, first_of_and, second_of_and, decided, refuted, contrary, same_tests}
+use Rattle.rules.proofs.Logic.{both, first_of_and, second_of_and, decided, same_tests}
 use Rattle.rules.proofs.Some.{below_by, below_one}
 use Rattle.rules.proofs.Lists.{all_with}
 use Rattle.rules.proofs.More.{still, last_stated, stated_of}
@@ -87,7 +88,7 @@ module _ (n : ℕ) (st : List Statement) (names : AllName n st) (i a : ℕ) (h :
   unfolding list_with_label clashes_at
   clash_at x y g g' p d =
       decided (clashes list_with_label n) (λ e. e)
-      (λ e. absurd (contrary (both (rw same_derived at p) d) (not_clashing list_with_label n e x y g g')))
+      (λ e. absurd (both_ways _ (not_clashing list_with_label n e x y g g') (both (rw same_derived at p) d)))
 
   met : any_below n (meets (facts_of st n) st i a) ≡ true → clashes list_with_label n ≡ true
   unfolding list_with_label meets
@@ -111,8 +112,8 @@ module _ (n : ℕ) (st : List Statement) (names : AllName n st) (i a : ℕ) (h :
       differ_of list_with_label x y (second_of_and _ _ least.applies) λ b c s s' d.
       stated_of st _ s
       (λ old. stated_of st _ s'
-      (λ old'. absurd (contrary (both alike (differ_by old old' d))
-      (not_clashing st n clear x y least.row least.column)))
+      (λ old'. absurd (both_ways _ (not_clashing st n clear x y least.row least.column)
+      (both alike (differ_by old old' d))))
       (λ new'. meets_by x b least.row (rw (← ap subject_of new') turned) old
       (λ e. d (sym e ∙ sym (ap label_of new')))))
       (λ new. stated_of st _ s'
@@ -131,10 +132,10 @@ unfolding clashes_at
 single_labels_lem {n} {st} stand names clear =
     record {
       single = λ i h.
-          refuted _ λ p.
+          false_from_ne_true _ λ p.
           let two = several_two (stand.at i h) p in
-          contrary
+          both_ways _
+          (not_clashing st n clear i i h h)
           (both ((derived_closed n st names).reflexive Kind.Compatible i h)
-          (differ_by two.first_stated two.second_stated two.differs))
-          (not_clashing st n clear i i h h);
+          (differ_by two.first_stated two.second_stated two.differs));
     }

@@ -5,6 +5,7 @@ use mathlib.Core.Bool.{Bool, true}
 use mathlib.Core.List.{List, [], ◌∷◌, ◌++◌}
 use mathlib.Core.Logic.{⊎_elim}
 use mathlib.Core.Path.{◌≡◌, sym, subst}
+use Rattle.std.proofs.lemmas.Bool.{both_ways}
 use Rattle.items.specs.declared.items.Statement.{Statement}
 use Rattle.items.specs.Statements.{Names, AllName}
 use Rattle.rules.specs.Stated.{labelling, Stated}
@@ -17,7 +18,7 @@ use Rattle.rules.proofs.Clashing.{differ_by, differ_of, clashing, not_clashing}
 use Rattle.rules.proofs.Derived.{smallest, derived_closed}
 use Rattle.rules.proofs.Lists.{all_with}
 use Rattle.rules.proofs.More.{still, last_stated, stated_of}
-use Rattle.rules.proofs.Logic.{both, first_of_and, second_of_and, decided, contrary, same_tests}
+use Rattle.rules.proofs.Logic.{both, first_of_and, second_of_and, decided, same_tests}
 use Rattle.rules.proofs.Tables.{fact_row, fact_column}
 use Rattle.table.specs.Queue.{entry_at, Queued}
 use Rattle.facts.specs.Additions.{Facts}
@@ -57,8 +58,8 @@ module _ (n : ℕ) (st : List Statement) (q : Statement) (all : AllName n st) (n
   by_pair i j alike differ =
       decided (clashes more n) (λ c. c)
       (λ c.
-      absurd (contrary (both alike (more_differ i j differ))
-      (not_clashing more n c i j (fact_row n _ Kind.Compatible i j alike) (fact_column n _ Kind.Compatible i j alike))))
+      absurd (both_ways _ (not_clashing more n c i j (fact_row n _ Kind.Compatible i j alike) (fact_column n _ Kind.Compatible i j alike))
+      (both alike (more_differ i j differ))))
 
   pub still_clashes : clashes st n ≡ true → clashes (st ++ (q ∷ [])) n ≡ true
   unfolding clashes_at
@@ -131,9 +132,9 @@ module _ {n : ℕ} {st : List Statement} {closed : List ℕ} {groups : Groups} {
       ⊎_elim
       (λ o.
       let before = fact_old Kind.Compatible i j o in
-      absurd (contrary (both before d)
-      (not_clashing st n consistent.clear i j (fact_row n _ Kind.Compatible i j before)
-      (fact_column n _ Kind.Compatible i j before))))
+      absurd (both_ways _ (not_clashing st n consistent.clear i j (fact_row n _ Kind.Compatible i j before)
+      (fact_column n _ Kind.Compatible i j before))
+      (both before d)))
       (λ e. e)
       (searched.tries.queued Kind.Compatible i j (rw tried_table p))
 

@@ -6,13 +6,14 @@ use mathlib.Core.Path.{◌≡◌, refl, sym, ap, subst, ◌∙◌}
 use native.Mathlib.Omega.{arith}
 use Rattle.std.specs.Prelude.{Option, Some, None, MatchOption}
 use Rattle.std.specs.Bool.{⊤}
+use Rattle.std.proofs.lemmas.Bool.{both_ways}
 use Rattle.fields.specs.Tests.{less, same, pick}
 use Rattle.fields.proofs.Choice.{is_same, same_true, less_true, less_false}
 use Rattle.rules.specs.declared.kinds.Kind.{Kind}
 use Rattle.rules.specs.Facts.{Holds}
 use Rattle.rules.specs.Tables.{says, cell_at, facts, Shape}
 use Rattle.rules.proofs.Cells.{says_nothing}
-use Rattle.rules.proofs.Logic.{decided, contrary}
+use Rattle.rules.proofs.Logic.{decided}
 use Rattle.rules.proofs.Tables.{fact_said}
 use Rattle.table.specs.Cells.{is_lacking}
 use Rattle.table.specs.declared.queue.Entry.{Entry}
@@ -40,7 +41,7 @@ module _ (n : ℕ) (t : List ℕ) (groups : Groups) (w f i k : ℕ) where
   new_feature : is_new n t groups w f i k ≡ true → feature_at groups k ≡ f
   unfolding is_new pick
   new_feature p =
-      decided (same (feature_at groups k) f) (λ e. same_true _ _ e) (λ e. absurd (contrary p (rw e refl)))
+      decided (same (feature_at groups k) f) (λ e. same_true _ _ e) (λ e. absurd (both_ways _ (rw e refl) p))
 
   not_new : Shape n t → w < 4 → i < n → variable_at groups k < n → is_new n t groups w f i k ≡ false
       → (kind : Kind) (x y : ℕ) → Under groups w f i k kind x y → Holds (facts n t) kind x y
@@ -188,7 +189,7 @@ module _ {n : ℕ} {s : State} {groups : Groups} {entry : Entry}
     pub visit_none : w ≡ 0 → Steps n Seen s s
     visit_none e =
         steps_already Seen s visiting.running.ready.shape visiting.running.framed λ kind x y p.
-        absurd (contrary (of_said kind p.parents) (ap (says kind) e ∙ says_nothing kind))
+        absurd (both_ways _ (ap (says kind) e ∙ says_nothing kind) (of_said kind p.parents))
 
     pub visit_steps : {s' : State} → Steps n (HandedDown groups w u v) s s' → Steps n Seen s s'
     visit_steps steps = steps_as Seen to_seen from_seen steps

@@ -6,6 +6,7 @@ use mathlib.Core.List.{List, [], ◌∷◌, ◌++◌}
 use mathlib.Core.Logic.{⊎_elim}
 use mathlib.Core.Path.{◌≡◌, refl, subst}
 use native.Mathlib.Omega.{arith}
+use Rattle.std.proofs.lemmas.Bool.{both_ways}
 use Rattle.fields.specs.Tests.{less, same}
 use Rattle.items.specs.declared.items.Statement.{Statement}
 use Rattle.items.specs.Statements.{Names, AllName}
@@ -14,7 +15,6 @@ use Rattle.rules.specs.Stated.{ordering, compatibility}
 use Rattle.rules.specs.declared.kinds.Kind.{Kind}
 use Rattle.rules.specs.Facts.{fact}
 use Rattle.rules.specs.Tables.{says, kind_cell}
-use Rattle.rules.proofs.Logic.{contrary}
 use Rattle.rules.proofs.More.{still, stated_of}
 use Rattle.facts.specs.Additions.{Facts, Said, Among}
 use Rattle.facts.proofs.Sets.{among_none}
@@ -121,8 +121,8 @@ fact_paired Kind.Compatible i j = said_paired record { first = refl; second = re
 pub fact_said : (kind other : Kind) (x y i j : ℕ) → Said (kind_cell kind) x y other i j → fact other i j ≡ fact kind x y
 unfolding says same less ◌or◌
 fact_said Kind.Ordered Kind.Ordered x y i j p = rw (p.first, p.second) refl
-fact_said Kind.Ordered Kind.Compatible x y i j p = absurd (contrary p.told refl)
-fact_said Kind.Compatible Kind.Ordered x y i j p = absurd (contrary p.told refl)
+fact_said Kind.Ordered Kind.Compatible x y i j p = absurd (both_ways _ refl p.told)
+fact_said Kind.Compatible Kind.Ordered x y i j p = absurd (both_ways _ refl p.told)
 fact_said Kind.Compatible Kind.Compatible x y i j p = rw (p.first, p.second) refl
 
 -- the other way round, and a fact is no selection

@@ -7,6 +7,7 @@ use mathlib.Core.Bool.{true, false}
 use mathlib.Core.List.{List}
 use mathlib.Core.Path.{◌≡◌, refl, ap, ◌∙◌}
 use native.Mathlib.Omega.{arith}
+use Rattle.std.proofs.lemmas.Bool.{both_ways}
 use Rattle.fields.specs.declared.refusals.Refusal.{Refusal}
 use Rattle.headers.specs.Headers.{size_for}
 use Rattle.items.specs.Questions.{Query}
@@ -21,7 +22,6 @@ use Rattle.rules.specs.Clashes.{clashes}
 use Rattle.rules.specs.Replies.{fails, reply_to, reply_number}
 use Rattle.rules.specs.Verdicts.{verdict_of}
 use Rattle.rules.proofs.Tables.{table_length}
-use Rattle.rules.proofs.Logic.{contrary}
 use Rattle.trees.specs.Assignments.{Assignment, Counts}
 use Rattle.trees.specs.Demand.{Answers, Demand3}
 use Rattle.trees.proofs.Demands.{demand_2, demand_3, demand_3_asked}
@@ -117,7 +117,7 @@ module _ {b facts₀ work₀ replies₀ facts' work' replies' : List ℕ} {r : �
         record {
           refused = ((λ z. absurd (omega (arith, z, kind))), (λ z. absurd (not_refused z)));
           consistent =
-              ((λ z. absurd (omega (arith, z, kind))), (λ z. absurd (contrary clashes_so (three.consistent.1 z.1))));
+              ((λ z. absurd (omega (arith, z, kind))), (λ z. absurd (both_ways _ (three.consistent.1 z.1) clashes_so)));
           clash = ((λ z. (is_accepted, three.clash.0 clashes_so)), (λ z. kind));
           derived = λ z. facts_told;
           least = λ z. rw (first, second) found;
@@ -133,7 +133,7 @@ module _ {b facts₀ work₀ replies₀ facts' work' replies' : List ℕ} {r : �
           refused = ((λ z. absurd (omega (arith, z, kind))), (λ z. absurd (not_refused z)));
           consistent = ((λ z. (is_accepted, three.consistent.0 fails_not)), (λ z. kind));
           clash =
-              ((λ z. absurd (omega (arith, z, kind))), (λ z. absurd (contrary (three.clash.1 z.1) fails_not)));
+              ((λ z. absurd (omega (arith, z, kind))), (λ z. absurd (both_ways _ fails_not (three.clash.1 z.1))));
           derived = λ z. facts_told;
           least = λ z. absurd (omega (arith, z, kind));
           replies = λ z k q at.

@@ -6,6 +6,7 @@ use mathlib.Core.List.{List}
 use mathlib.Core.Logic.{⊎_elim}
 use mathlib.Core.Path.{◌≡◌, refl, sym, ap, subst, ◌∙◌}
 use native.Mathlib.Omega.{arith}
+use Rattle.std.proofs.lemmas.Bool.{both_ways}
 use Rattle.fields.specs.Tests.{less, same, pick}
 use Rattle.fields.proofs.Choice.{is_same, same_true, same_false, chosen, passed}
 use Rattle.rules.specs.Connectives.{◌and◌, ◌or◌}
@@ -13,7 +14,7 @@ use Rattle.rules.specs.declared.kinds.Kind.{Kind}
 use Rattle.rules.specs.Facts.{Relation, Holds, Within}
 use Rattle.rules.specs.Tables.{says, cell_at, facts, Shape}
 use Rattle.rules.proofs.Cells.{says_nothing}
-use Rattle.rules.proofs.Logic.{decided, contrary, both, first_of_and}
+use Rattle.rules.proofs.Logic.{decided, both, first_of_and}
 use Rattle.rules.proofs.Tables.{fact_row, fact_column, fact_said}
 use Rattle.table.specs.declared.cells.Kinds.{Kinds}
 use Rattle.table.specs.Cells.{is_lacking}
@@ -26,7 +27,7 @@ use Rattle.facts.proofs.Joined.{cell_cases, says_already}
 -- 2 says ~ alone
 only_two : (P : Kind → Type 0) (kind : Kind) → says kind 2 ≡ true → P Kind.Compatible → P kind
 unfolding says same ◌or◌
-only_two P Kind.Ordered e p = absurd (contrary e refl)
+only_two P Kind.Ordered e p = absurd (both_ways _ refl e)
 only_two P Kind.Compatible e p = p
 
 says_two : says Kind.Compatible 2 ≡ true
@@ -35,7 +36,7 @@ says_two = refl
 
 not_ordered : Kind.Ordered ≡ Kind.Compatible → ⊥
 unfolding says less same ◌or◌
-not_ordered e = contrary says_two (sym (ap (λ k. says k 2) e))
+not_ordered e = both_ways _ (sym (ap (λ k. says k 2) e)) says_two
 
 -- a cell that says nothing is lacked nowhere
 pub lacking_positive : (cell w : ℕ) → is_lacking cell w ≡ true → 0 < w
@@ -44,7 +45,7 @@ lacking_positive cell w e =
     decided (same w 0)
     (λ p.
     let none : bit_or cell w ≡ cell = ap (bit_or cell) (same_true w 0 p) ∙ or_zero_r cell in
-    absurd (contrary e (ap not (is_same _ _ none))))
+    absurd (both_ways _ (ap not (is_same _ _ none)) e))
     (λ p. let other = same_false w 0 p in omega arith)
 
 -- a cell that lacks nothing of w says all that w says
@@ -53,7 +54,7 @@ pub has_all : (kind : Kind) (cell w : ℕ) → cell < 4 → w < 4 → is_lacking
 unfolding is_lacking
 has_all kind cell w h g e p =
     decided (same (bit_or cell w) cell) (λ q. says_already kind cell w h g (same_true _ _ q) p)
-    (λ q. absurd (contrary (ap not q) e))
+    (λ q. absurd (both_ways _ e (ap not q)))
 
 -- the mark of a variable, by whether it is below u
 pub mark_not_below : (n : ℕ) (t : List ℕ) (w u v x : ℕ) → says Kind.Ordered (cell_at n t x u) ≡ false
@@ -76,7 +77,7 @@ says_some : (w : ℕ) → 0 < w → w < 4 → says Kind.Ordered w ≡ false → 
 unfolding says same less ◌or◌
 says_some w h g =
     cell_cases (λ x. 0 < x → says Kind.Ordered x ≡ false → says Kind.Compatible x ≡ true)
-    (λ b p. absurd (omega arith)) (λ b p. absurd (contrary refl p)) (λ b p. refl) (λ b p. refl) w g h
+    (λ b p. absurd (omega arith)) (λ b p. absurd (both_ways _ p refl)) (λ b p. refl) (λ b p. refl) w g h
 
 module _ (n : ℕ) (t : List ℕ) (w u v : ℕ) (shape : Shape n t) (framed : Framed n (facts n t))
     (some : 0 < w) (small : w < 4) (h : u < n) (g : v < n) where
@@ -110,7 +111,7 @@ module _ (n : ℕ) (t : List ℕ) (w u v : ℕ) (shape : Shape n t) (framed : Fr
       of false true p q e =
           by_both (only_two (λ k. k ≡ Kind.Compatible) kind e refl) (says_some w some small p)
           (said Kind.Ordered y v b g q)
-      of false false p q e = absurd (contrary e (says_nothing kind))
+      of false false p q e = absurd (both_ways _ (says_nothing kind) e)
 
   row_ordered : (kind : Kind) (y : ℕ) → says Kind.Ordered w ≡ true → Holds (facts n t) kind v y
       → says kind (cell_taken_at n t w v y) ≡ true

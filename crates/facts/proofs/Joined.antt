@@ -4,12 +4,13 @@ use lib.Bits.{bit_or}
 use mathlib.Core.Bool.{true, false}
 use mathlib.Core.Path.{◌≡◌, refl, sym, ap, ◌∙◌}
 use native.Mathlib.Omega.{arith}
+use Rattle.std.proofs.lemmas.Bool.{both_ways}
 use Rattle.fields.specs.Tests.{less, same}
 use Rattle.rules.specs.Connectives.{◌or◌}
 use Rattle.rules.specs.declared.kinds.Kind.{Kind}
 use Rattle.rules.specs.Tables.{says}
 use Rattle.rules.proofs.Cells.{same_cell}
-use Rattle.rules.proofs.Logic.{decided, either_first, either_second, either_of, contrary, same_tests}
+use Rattle.rules.proofs.Logic.{decided, either_first, either_second, either_of, same_tests}
 
 -- by cases: a cell is 0, 1, 2 or 3
 pub cell_cases : (P : ℕ → Type 0) → P 0 → P 1 → P 2 → P 3 → (cell : ℕ) → cell < 4 → P cell
@@ -57,7 +58,7 @@ module _ {C : Type 0} (c w : ℕ) (h : c < 4) (g : w < 4) (next : (kind : Kind) 
   said_or : (kind : Kind) → ((says kind w ≡ true → says kind c ≡ true) → C) → C
   said_or kind later =
       decided (says kind c) (λ p. later (λ q. p))
-      (λ p. decided (says kind w) (λ q. next kind q p) (λ q. later (λ z. absurd (contrary z q))))
+      (λ p. decided (says kind w) (λ q. next kind q p) (λ q. later (λ z. absurd (both_ways _ q z))))
 
   same_said : (kind : Kind) → (says kind w ≡ true → says kind c ≡ true) → says kind (bit_or c w) ≡ says kind c
   same_said kind more =

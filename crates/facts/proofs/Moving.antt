@@ -6,13 +6,14 @@ use mathlib.Core.List.{List}
 use mathlib.Core.Logic.{◌⊎◌, inl, inr, ⊎_elim}
 use mathlib.Core.Path.{◌≡◌, refl, ◌∙◌}
 use native.Mathlib.Omega.{arith}
+use Rattle.std.proofs.lemmas.Bool.{both_ways}
 use Rattle.fields.specs.Tests.{less}
 use Rattle.fields.proofs.Choice.{less_true, less_false}
 use Rattle.rules.specs.declared.kinds.Kind.{Kind}
 use Rattle.rules.specs.Facts.{Holds, Within}
 use Rattle.rules.specs.Tables.{facts, Shape, count_facts}
 use Rattle.rules.proofs.Counts.{count_most, count_back, count_bound}
-use Rattle.rules.proofs.Logic.{decided, contrary}
+use Rattle.rules.proofs.Logic.{decided}
 use Rattle.table.specs.Queue.{entry_at, Queued, IsEntry, State, fact_count, Ready}
 use Rattle.table.proofs.Entries.{wider, carried}
 use Rattle.facts.specs.Additions.{Moves}
@@ -79,7 +80,7 @@ module _ (n : ℕ) (t t' : List ℕ) (grows : Within (facts n t) (facts n t')) w
       → count_facts n (facts n t) kind < count_facts n (facts n t') kind
   more_of kind i j h g p q =
       decided (less (count_facts n (facts n t) kind) (count_facts n (facts n t') kind)) (λ e. less_true _ _ e)
-      (λ e. absurd (contrary (count_back n _ _ grows kind (less_false _ _ e) i j h g p) q))
+      (λ e. absurd (both_ways _ q (count_back n _ _ grows kind (less_false _ _ e) i j h g p)))
 
   pub more_facts : (kind : Kind) (i j : ℕ) → i < n → j < n → Holds (facts n t') kind i j → facts n t kind i j ≡ false
       → fact_count n t < fact_count n t'

@@ -7,13 +7,14 @@ use mathlib.Core.List.{List, [], ◌∷◌, ◌++◌}
 use mathlib.Core.Logic.{inl, inr}
 use mathlib.Core.Path.{◌≡◌, sym, ap, subst, ◌∙◌}
 use native.Mathlib.Omega.{arith}
+use Rattle.std.proofs.lemmas.Bool.{both_ways}
 use Rattle.fields.specs.Tests.{same}
 use Rattle.fields.proofs.Choice.{is_same}
 use Rattle.rules.specs.Connectives.{◌or◌}
 use Rattle.rules.specs.declared.kinds.Kind.{Kind}
 use Rattle.rules.specs.Facts.{Holds, Within}
 use Rattle.rules.specs.Tables.{says, cell_at, facts}
-use Rattle.rules.proofs.Logic.{contrary, either_first, either_second, either_of}
+use Rattle.rules.proofs.Logic.{either_first, either_second, either_of}
 use Rattle.rules.proofs.Tables.{fact_row, fact_column, fact_said}
 use Rattle.table.specs.Cells.{with_cell, is_lacking}
 use Rattle.table.specs.declared.queue.Entry.{Entry}
@@ -143,7 +144,7 @@ module _ (n : ℕ) (s : State) (w x y cell : ℕ) (taking : Taking n s w x y) (e
     {lacks : Bool} (asked : lacks ≡ is_lacking cell w) (lacking : lacks ≡ true) where
   looked : bit_or (cell_at n s.table x y) w ≡ cell_at n s.table x y → ⊥
   unfolding is_lacking
-  looked none = contrary (rw e at (sym asked ∙ lacking)) (ap not (is_same _ _ none))
+  looked none = both_ways _ (ap not (is_same _ _ none)) (rw e at (sym asked ∙ lacking))
 
   pub take_room : length s.queue < queue_room
   take_room = has_room n s w x y taking looked

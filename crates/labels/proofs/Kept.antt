@@ -8,6 +8,7 @@ use mathlib.Core.List.Memᴰ
 use mathlib.Core.List.{List, [], ◌∷◌, ◌++◌}
 use mathlib.Core.Path.{◌≡◌, refl, sym, ap, subst, ◌∙◌}
 use native.Mathlib.Omega.{arith}
+use Rattle.std.proofs.lemmas.Bool.{false_from_ne_true}
 use Rattle.fields.specs.Fields.{label}
 use Rattle.fields.specs.Limits.{most_variables}
 use Rattle.fields.specs.Tests.{same, pick}
@@ -15,7 +16,7 @@ use Rattle.fields.proofs.Choice.{is_same, not_same, same_true, same_false}
 use Rattle.items.specs.declared.items.Statement.{Statement}
 use Rattle.rules.specs.Stated.{labelling, Stated}
 use Rattle.rules.specs.Clashes.{labels_differ}
-use Rattle.rules.proofs.Logic.{both, first_of_and, second_of_and, decided, refuted, same_tests}
+use Rattle.rules.proofs.Logic.{both, first_of_and, second_of_and, decided, same_tests}
 use Rattle.rules.proofs.Some.{by_labelling, one_labelling}
 use Rattle.rules.proofs.More.{still, last_stated, stated_of}
 use Rattle.rules.proofs.Clashing.{differ_by, differ_of}
@@ -40,10 +41,10 @@ other_of st j a p next =
 -- the labels of j tell whether another than a is stated
 pub other_told : {st : List Statement} {j : ℕ} {s : Spread} → LabelsAt st j s → (a : ℕ)
     → has_other s a ≡ other_stated st j a
-other_told {st} {j} (LabelsAt.none none) a = sym (refuted _ λ p. other_of st j a p λ b s d. none b s)
+other_told {st} {j} (LabelsAt.none none) a = sym (false_from_ne_true _ λ p. other_of st j a p λ b s d. none b s)
 other_told {st} {j} (LabelsAt.one {a = b} one) a =
     decided (same b.0 a)
-    (λ p. rw p (sym (refuted _ λ q. other_of st j a q λ c s d. d (sym (same_true _ _ p) ∙ sym (one.only c s)))))
+    (λ p. rw p (sym (false_from_ne_true _ λ q. other_of st j a q λ c s d. d (sym (same_true _ _ p) ∙ sym (one.only c s)))))
     (λ p. rw p (sym (other_by one.stated (λ q. same_false _ _ p (sym q)))))
 other_told {st} {j} (LabelsAt.several two) a =
     decided (same a two.first)
@@ -72,7 +73,7 @@ several_two (LabelsAt.several two) e = two
 -- a variable without a label differs from none
 pub none_differ : {st : List Statement} {i : ℕ} {s : Spread} (j : ℕ) → LabelsAt st i s → has_any s ≡ false
     → labels_differ st i j ≡ false
-none_differ {st} {i} j (LabelsAt.none none) e = refuted _ λ p. differ_of st i j p λ a b s s' d. none a s
+none_differ {st} {i} j (LabelsAt.none none) e = false_from_ne_true _ λ p. differ_of st i j p λ a b s s' d. none a s
 none_differ j (LabelsAt.one one) e = absurd (true≢false e)
 none_differ j (LabelsAt.several two) e = absurd (true≢false e)
 
@@ -85,7 +86,7 @@ two_differ {st} {i} {j} {b} two here =
 -- the labels of i and of j tell whether two differ
 module _ {st : List Statement} {i j : ℕ} where
   any_told : {s : Spread} → TwoLabels st i → LabelsAt st j s → has_any s ≡ labels_differ st i j
-  any_told two (LabelsAt.none none) = sym (refuted _ λ p. differ_of st i j p λ a b s s' d. none b s')
+  any_told two (LabelsAt.none none) = sym (false_from_ne_true _ λ p. differ_of st i j p λ a b s s' d. none b s')
   any_told two (LabelsAt.one one) = sym (two_differ two one.stated)
   any_told two (LabelsAt.several two') = sym (two_differ two two'.first_stated)
 

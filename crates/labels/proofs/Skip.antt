@@ -9,6 +9,7 @@ use native.Mathlib.Numerals.{add-one}
 use native.Mathlib.Omega.{arith}
 use Rattle.std.specs.List.{fold}
 use Rattle.std.proofs.lemmas.List.Sums.{fold_more}
+use Rattle.std.proofs.lemmas.Bool.{false_from_ne_true}
 use Rattle.fields.specs.declared.numbers.Label.{Label}
 use Rattle.fields.specs.Tests.{same, pick}
 use Rattle.fields.proofs.Choice.{same_true}
@@ -16,7 +17,7 @@ use Rattle.items.specs.declared.items.Statement.{Statement}
 use Rattle.items.specs.Statements.{AllName}
 use Rattle.rules.specs.Stated.{labelling, Stated, if_labelling}
 use Rattle.rules.specs.Clashes.{clashes_at, clashes}
-use Rattle.rules.proofs.Logic.{second_of_and, decided, refuted, last_or_before}
+use Rattle.rules.proofs.Logic.{second_of_and, decided, last_or_before}
 use Rattle.rules.proofs.Lists.{named}
 use Rattle.rules.proofs.More.{stated_of}
 use Rattle.rules.proofs.Clashing.{differ_of, clashing}
@@ -32,7 +33,7 @@ OneLabel st b = (i a : ℕ) → Stated st (labelling i a) → a ≡ b
 one_clear : (st : List Statement) (n b : ℕ) → OneLabel st b → clashes st n ≡ false
 unfolding OneLabel clashes_at
 one_clear st n b one =
-    refuted _ λ p. clashing st n p λ x y least.
+    false_from_ne_true _ λ p. clashing st n p λ x y least.
     differ_of st x y (second_of_and _ _ least.applies) λ a c s s' d.
     d (one x a s ∙ sym (one y c s'))
 

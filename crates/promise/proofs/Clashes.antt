@@ -1,13 +1,13 @@
 -- The verdict clash is given exactly where F5 applies to a pair.
 use mathlib.Core.Path.{◌≡◌, refl, ap}
 use Rattle.std.specs.Prelude.{Option, None, Some}
+use Rattle.std.proofs.lemmas.Bool.{both_ways}
 use Rattle.sheet.specs.Sheets.{Sheet}
 use Rattle.rules.specs.declared.clashes.Clash.{Clash}
 use Rattle.rules.specs.declared.verdicts.Verdict.{Verdict}
 use Rattle.rules.specs.Clashes.{clash_of}
 use Rattle.rules.specs.Verdicts.{verdict_by, verdict_of}
 use Rattle.rules.proofs.Clashing.{clash_least, clash_nowhere}
-use Rattle.rules.proofs.Logic.{contrary}
 use Rattle.promise.specs.Promise.{F5Applies}
 
 pub nowhere_by : (c : Option Clash) → verdict_by c ≡ Verdict.Consistent → c ≡ None
@@ -29,7 +29,7 @@ module _ (s : Sheet) where
 
   pub none_applies : verdict_of s ≡ Verdict.Consistent → F5Applies s → ⊥
   none_applies e (i, (j, (h, g, applies))) =
-      contrary applies ((clash_nowhere s.stated s.n).0 (nowhere e) i j h g)
+      both_ways _ ((clash_nowhere s.stated s.n).0 (nowhere e) i j h g) applies
 
   pub applies : (clash : Clash) → verdict_of s ≡ Verdict.Clash clash → F5Applies s
   applies clash e =

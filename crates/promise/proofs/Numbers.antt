@@ -9,6 +9,7 @@ use mathlib.Core.Logic.{◌⊎◌, inl, inr}
 use mathlib.Core.Path.{◌≡◌, ◌∙◌, sym}
 use native.Mathlib.Nat.{mul-le-mul}
 use native.Mathlib.Omega.{arith}
+use Rattle.std.proofs.lemmas.Bool.{both_ways}
 use Rattle.fields.specs.Limits.{most_variables}
 use Rattle.sheet.specs.declared.whole.Accepted.{Accepted}
 use Rattle.sheet.specs.Sheets.{sheet_of}
@@ -18,7 +19,6 @@ use Rattle.rules.specs.Derived.{facts_of}
 use Rattle.rules.specs.declared.kinds.Kind.{Kind}
 use Rattle.rules.proofs.Clashing.{clash_least}
 use Rattle.rules.proofs.Counts.{count_bound}
-use Rattle.rules.proofs.Logic.{contrary}
 use Rattle.outcomes.specs.declared.outcomes.Outcome.{Outcome}
 use Rattle.outcomes.specs.Outcomes.{first_of, second_of, packed, kind_in, first_in, second_in}
 use Rattle.outcomes.proofs.Judging.{accepted_fits}
@@ -63,6 +63,6 @@ pub none_before : {b facts₀ work₀ replies₀ facts' replies' : List ℕ} {r 
     → Means b facts₀ work₀ replies₀ facts' replies' r → kind_in r ≡ 1
     → (i j : ℕ) → (i < first_in r) ⊎ ((i ≡ first_in r) × (j < second_in r)) → j < (sheet_of b).n
     → clashes_at (sheet_of b).stated (facts_of (sheet_of b).stated (sheet_of b).n) i j ≡ true → ⊥
-none_before means kind i j (inl above) column applies = contrary applies ((means.least kind).least_row i j above column)
+none_before means kind i j (inl above) column applies = both_ways _ ((means.least kind).least_row i j above column) applies
 none_before means kind i j (inr (same, before)) column applies =
-    contrary applies (rw same ((means.least kind).least_column j before))
+    both_ways _ (rw same ((means.least kind).least_column j before)) applies

@@ -4,10 +4,13 @@ use mathlib.Core.Bool.{true, false, not, true≢false, false≢true}
 use mathlib.Core.List.{List}
 use mathlib.Core.Logic.{◌↔◌}
 use mathlib.Core.Path.{◌≡◌, refl, sym, ap, ap₂, subst}
+use borrow.Author.Count.{below_more}
 use borrow.Author.Tests.{not-true}
+use native.Mathlib.Numerals.{add-one}
 use native.Mathlib.Omega.{arith}
 use Rattle.std.specs.Option.{option_or}
 use Rattle.std.specs.Prelude.{Option, None, Some, is_some}
+use Rattle.std.proofs.lemmas.Bool.{both_ways}
 use Rattle.fields.specs.Tests.{less, same, pick}
 use Rattle.fields.proofs.Choice.{is_same, not_same, same_true, same_false, less_true, less_false}
 use Rattle.items.specs.declared.items.Statement.{Statement}
@@ -18,7 +21,7 @@ use Rattle.rules.specs.Derived.{facts_of}
 use Rattle.rules.specs.Clashes.{labels_differ, clashes_at, clash_between, clash_in_row, clash_in_rows, clash_of}
 use Rattle.rules.specs.Clashes.{clashes}
 use Rattle.rules.specs.Demand.{LeastClash, NoClash}
-use Rattle.rules.proofs.Logic.{both, first_of_and, second_of_and, decided, contrary, last_or_before}
+use Rattle.rules.proofs.Logic.{both, first_of_and, second_of_and, decided}
 use Rattle.rules.proofs.Some.{by_labelling, one_labelling}
 
 -- two labels that differ, stated of i and of j
@@ -37,10 +40,6 @@ differ_of st i j p next =
     next a b (subst (λ k. Stated st (labelling k a)) (sym (same_true i x (first_of_and _ _ q))) s)
     (subst (λ k. Stated st (labelling k b)) (sym (same_true j y (first_of_and _ _ q'))) s')
     (same_false a b (not-true _ (second_of_and (same j y) _ q')))
-
--- what holds below m and at m holds up to m
-up_to : (P : ℕ → Type 0) (m : ℕ) → ((x : ℕ) → x < m → P x) → P m → (x : ℕ) → x < suc m → P x
-up_to P m below at x h = last_or_before x m h (λ e. rw e at) (below x)
 
 -- F5 applies to no pair of row i
 abbrev Clear : ℕ → List Statement → Relation → ℕ → Type 0
@@ -66,7 +65,7 @@ module _ (n : ℕ) (st : List Statement) (r : Relation) where
         least_row = λ x y b g. above x b y g;
         least_column = before;
       }))
-      (λ p. rw p (row_told i h above left (suc j) (omega arith) (up_to (λ y. clashes_at st r i y ≡ false) j before p)))
+      (λ p. rw p (row_told i h above left (suc j) (omega arith) (rw (add-one j) at (below_more (λ y. clashes_at st r i y ≡ false) j before p))))
 
   or_later : (i : ℕ) (c later : Option Clash) → Told n st r (Clear n st r i) c
       → (Clear n st r i → Told n st r (NoClash st r n) later) → Told n st r (NoClash st r n) (option_or c later)
@@ -80,7 +79,7 @@ module _ (n : ℕ) (st : List Statement) (r : Relation) where
   rows_told (suc left) i e above =
       or_later i (clash_in_row n 0 st r i) (clash_in_rows left (suc i) n st r)
       (row_told i (omega arith) above n 0 (omega arith) (λ y g. absurd (omega arith)))
-      (λ clear. rows_told left (suc i) (omega arith) (up_to (Clear n st r) i above clear))
+      (λ clear. rows_told left (suc i) (omega arith) (rw (add-one i) at (below_more (Clear n st r) i above clear)))
 
   told : Told n st r (NoClash st r n) (clash_in_rows n 0 n st r)
   told = rows_told n 0 (omega arith) (λ x h. absurd (omega arith))
@@ -88,11 +87,11 @@ module _ (n : ℕ) (st : List Statement) (r : Relation) where
   -- no clash is before the least, so there is one least
   row_first : (i j x y : ℕ) → LeastClash st r n i j → y < n → clashes_at st r x y ≡ true → i ≤ x
   row_first i j x y a g p =
-      decided (less x i) (λ e. absurd (contrary p (a.least_row x y (less_true x i e) g))) (less_false x i)
+      decided (less x i) (λ e. absurd (both_ways _ (a.least_row x y (less_true x i e) g) p)) (less_false x i)
 
   column_first : (i j y : ℕ) → LeastClash st r n i j → clashes_at st r i y ≡ true → j ≤ y
   column_first i j y a p =
-      decided (less y j) (λ e. absurd (contrary p (a.least_column y (less_true y j e)))) (less_false y j)
+      decided (less y j) (λ e. absurd (both_ways _ (a.least_column y (less_true y j e)) p)) (less_false y j)
 
   one_least : (i j x y : ℕ) → LeastClash st r n i j → LeastClash st r n x y → (i ≡ x) × (j ≡ y)
   one_least i j x y a b =
@@ -104,14 +103,14 @@ module _ (n : ℕ) (st : List Statement) (r : Relation) where
   -- what is told is what holds
   least_told : (i j : ℕ) (c : Option Clash) → Told n st r (NoClash st r n) c → LeastClash st r n i j
       → c ≡ Some (clash_between i j)
-  least_told i j None t a = absurd (contrary a.applies (t i j a.row a.column))
+  least_told i j None t a = absurd (both_ways _ (t i j a.row a.column) a.applies)
   least_told i j (Some c) t a =
       let e = one_least c.first.0 c.second.0 i j t a in
       ap₂ (λ k m. Some (clash_between k m)) e.0 e.1
 
   none_told : (c : Option Clash) → Told n st r (NoClash st r n) c → NoClash st r n → c ≡ None
   none_told None t a = refl
-  none_told (Some c) t a = absurd (contrary t.applies (a c.first.0 c.second.0 t.row t.column))
+  none_told (Some c) t a = absurd (both_ways _ (a c.first.0 c.second.0 t.row t.column) t.applies)
 
   -- the search in all rows tells a pair just where it is the least, and nowhere just where there is none
   pub between_least : (i j : ℕ)

@@ -1,10 +1,9 @@
 -- Tests joined by 'and' and 'or', their parts, and cases by a test.
 use Prim.Native.Nat.{ℕ, suc, ◌<◌}
-use mathlib.Core.Bool.{Bool, true, false, true≢false, false≢true}
-use mathlib.Core.Path.{◌≡◌, refl, sym, ◌∙◌}
-use native.Mathlib.Omega.{arith}
-use Rattle.fields.specs.Tests.{same}
-use Rattle.fields.proofs.Choice.{same_true, same_false}
+use mathlib.Core.Bool.{Bool, true, false, false≢true}
+use mathlib.Core.Logic.{⊎_elim}
+use mathlib.Core.Path.{◌≡◌, refl, sym}
+use native.Mathlib.Nat.{eq-or-lt_of_le, le_of_suc-le-suc}
 use Rattle.rules.specs.Connectives.{◌and◌, ◌or◌}
 
 pub both : {a b : Bool} → a ≡ true → b ≡ true → a and b ≡ true
@@ -40,14 +39,6 @@ pub decided : {C : Type 0} (b : Bool) → (b ≡ true → C) → (b ≡ false �
 decided true f g = f refl
 decided false f g = g refl
 
--- a test that is not true is false
-pub refuted : (b : Bool) → (b ≡ true → ⊥) → b ≡ false
-refuted true h = absurd (h refl)
-refuted false h = refl
-
-pub contrary : {b : Bool} → b ≡ true → b ≡ false → ⊥
-contrary p q = true≢false (sym p ∙ q)
-
 -- two tests that hold in the same cases are the same
 pub same_tests : (a b : Bool) → (a ≡ true → b ≡ true) → (b ≡ true → a ≡ true) → a ≡ b
 same_tests true b f g = sym (f refl)
@@ -56,5 +47,4 @@ same_tests false false f g = refl
 
 -- a number below suc m is m or below m
 pub last_or_before : {C : Type 0} (x m : ℕ) → x < suc m → (x ≡ m → C) → (x < m → C) → C
-last_or_before x m h last before =
-    decided (same x m) (λ e. last (same_true x m e)) (λ e. let other = same_false x m e in before (omega arith))
+last_or_before x m h last before = ⊎_elim last before (eq-or-lt_of_le (le_of_suc-le-suc h))

@@ -4,8 +4,10 @@ use mathlib.Core.List.{List}
 use mathlib.Core.Path.{◌≡◌, refl, sym, ap, ap₂, ◌∙◌}
 use lib.ListN.{length, get_or, replicate, length-append, length-replicate, get_or-replicate, get_or-append}
 use lib.Seq.{get_or-append-add, ext_get_or}
-use native.Mathlib.Nat.{suc-mul, zero-mul, div-add-mod', mod-lt, div-lt_iff_lt-mul, mul-le-mul_right}
+use native.Mathlib.Nat.{suc-mul, zero-mul, div-add-mod', mod-lt, div-lt_iff_lt-mul}
 use native.Mathlib.Omega.{arith}
+use Rattle.std.proofs.lemmas.Bool.{both_ways}
+use Rattle.std.proofs.lemmas.Nat.{mul-add-lt}
 use Rattle.fields.specs.Tests.{less}
 use Rattle.fields.proofs.Choice.{is_less, less_true}
 use Rattle.headers.specs.Headers.{size_for}
@@ -13,7 +15,7 @@ use Rattle.rules.specs.Connectives.{◌and◌}
 use Rattle.rules.specs.declared.kinds.Kind.{Kind}
 use Rattle.rules.specs.Facts.{Relation, Holds}
 use Rattle.rules.specs.Tables.{says, cell_of, cell_at, facts, row_of, rows_of, table_of, table_bytes, Shape}
-use Rattle.rules.proofs.Logic.{first_of_and, second_of_and, contrary}
+use Rattle.rules.proofs.Logic.{first_of_and, second_of_and}
 use Rattle.rules.proofs.Cells.{said, small_cell, says_nothing, same_cell}
 
 -- the cell that a set of facts has for i and j
@@ -84,10 +86,7 @@ module _ (n : ℕ) (r : Relation) where
   table_facts kind i j h g =
       fact_said n (table_of n r) kind i j h g ∙ ap (says kind) (table_cell i j h g) ∙ said (λ k. r k i j) kind
 
--- the cell of two variables is one of n × n, and where there is a cell there is a variable
-inside : (n i j : ℕ) → i < n → j < n → i * n + j < n * n
-inside n i j h g = omega (arith, suc-mul i n, mul-le-mul_right n h)
-
+-- where there is a cell there is a variable
 positive : (n k : ℕ) → k < n * n → 0 < n
 positive zero k h = absurd (omega arith)
 positive (suc n) k h = omega arith
@@ -96,7 +95,7 @@ positive (suc n) k h = omega arith
 module _ (n : ℕ) where
   zero_cell : (i j : ℕ) → i < n → j < n → cell_at n (replicate (n * n) 0) i j ≡ 0
   unfolding cell_at
-  zero_cell i j h g = get_or-replicate (n * n) (i * n + j) 0 0 (inside n i j h g)
+  zero_cell i j h g = get_or-replicate (n * n) (i * n + j) 0 0 (mul-add-lt i n j n h g)
 
   pub zeros_shape : Shape n (replicate (n * n) 0)
   zeros_shape = record { size = length-replicate (n * n) 0; cells = λ i j h g. rw (zero_cell i j h g) (omega arith) }
@@ -105,7 +104,7 @@ module _ (n : ℕ) where
   zeros_empty kind i j p =
       let h = fact_row n _ kind i j p in
       let g = fact_column n _ kind i j p in
-      contrary p (fact_said n _ kind i j h g ∙ ap (says kind) (zero_cell i j h g) ∙ says_nothing kind)
+      both_ways _ (fact_said n _ kind i j h g ∙ ap (says kind) (zero_cell i j h g) ∙ says_nothing kind) p
 
 -- tables of the same facts are the same
 module _ (n : ℕ) (t u : List ℕ) (shape_t : Shape n t) (shape_u : Shape n u)

@@ -3,12 +3,12 @@ use Prim.Native.Nat.{ℕ, ◌<◌}
 use mathlib.Core.Bool.{false}
 use mathlib.Core.List.{List}
 use mathlib.Core.Path.{◌≡◌, subst}
+use Rattle.std.proofs.lemmas.Bool.{both_ways, false_from_ne_true}
 use Rattle.items.specs.declared.items.Statement.{Statement}
 use Rattle.items.specs.Statements.{AllName, All, Names}
 use Rattle.sheet.specs.Sheets.{Sheet}
 use Rattle.rules.specs.declared.kinds.Kind.{Kind}
 use Rattle.rules.specs.Replies.{fails, supports}
-use Rattle.rules.proofs.Logic.{refuted, contrary}
 use Rattle.rules.proofs.Lists.{all_from}
 use Rattle.trees.specs.Trees.{Below}
 use Rattle.trees.specs.Assignments.{Assignment, FalsifiesAll, Meets}
@@ -47,7 +47,7 @@ module _ (s : Sheet) (fit : AllName s.n s.stated) (consistent : fails s ≡ fals
       → NoneSupported s.stated (related s.n s.stated fit) qs
   none_supported qs =
       all_from (Names s.n) _ _ qs λ q h none.
-      refuted _ (λ p. contrary (related_supported s.n s.stated fit q h p) none)
+      false_from_ne_true _ (λ p. both_ways _ none (related_supported s.n s.stated fit q h p))
 
   -- one structure extended against the whole list
   pub refutation : (qs : List Statement) → AllName s.n qs → NoneFollows s qs

@@ -5,6 +5,7 @@ use mathlib.Core.List.{List}
 use mathlib.Core.Logic.{inl, inr, ⊎_elim}
 use mathlib.Core.Path.{◌≡◌, refl, sym, subst}
 use native.Mathlib.Omega.{arith}
+use Rattle.std.proofs.lemmas.Bool.{both_ways}
 use Rattle.fields.specs.Tests.{less}
 use Rattle.fields.proofs.Choice.{is_less, not_less}
 use Rattle.items.specs.declared.items.Statement.{Statement}
@@ -12,7 +13,6 @@ use Rattle.items.specs.Statements.{Names}
 use Rattle.rules.specs.declared.kinds.Kind.{Kind}
 use Rattle.rules.specs.Facts.{fact, Relation, Holds, Closed}
 use Rattle.rules.specs.Stated.{selection, labelling, Stated}
-use Rattle.rules.proofs.Logic.{contrary}
 use Rattle.rules.proofs.Supported.{under_by, over_by, label_by, Carries, carried}
 use Rattle.rules.proofs.Lists.{named, names_more, all_by}
 use Rattle.trees.proofs.Structures.{descends, one_label, symmetric, through, Laws, left_variable, right_variable}
@@ -41,10 +41,10 @@ module _ {n : ℕ} {st : List Statement} {r : Relation} (L : Laws n st r) where
   marked_descends kind g x x' y y' (own h e c) p (old s') = absurd (not_unused x s' e)
   marked_descends kind g x x' y y' (own h e c) p (own h' e' c') = rw (c, c') (L.self kind n)
   marked_descends kind g x x' y y' (own h e c) p (against z h' h'' d e' c') =
-      absurd (contrary (subst (λ w. Holds r Kind.Compatible w y) (omega arith) (as_compatible kind p)) d)
+      absurd (both_ways _ d (subst (λ w. Holds r Kind.Compatible w y) (omega arith) (as_compatible kind p)))
   marked_descends kind g x x' y y' (against z h h' d e c) p (old s') = absurd (not_unused z s' e)
   marked_descends kind g x x' y y' (against z h h' d e c) p (own h'' e' c') =
-      absurd (contrary (subst (λ w. Holds r Kind.Compatible w x) (omega arith) (symmetric L (as_compatible kind p))) d)
+      absurd (both_ways _ d (subst (λ w. Holds r Kind.Compatible w x) (omega arith) (symmetric L (as_compatible kind p))))
   marked_descends kind g x x' y y' (against z h h' d e c) p (against z' h'' h''' d' e' c') =
       rw (c, c') (L.self kind (suc n))
 

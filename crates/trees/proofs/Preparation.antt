@@ -6,13 +6,14 @@ use mathlib.Core.List.{List, [], ◌∷◌}
 use mathlib.Core.Logic.{◌⊎◌, inl, inr, ⊎_elim}
 use mathlib.Core.Path.{◌≡◌, refl, ◌∙◌}
 use native.Mathlib.Omega.{arith}
+use Rattle.std.proofs.lemmas.Bool.{both_ways, false_from_ne_true}
 use Rattle.items.specs.declared.items.Statement.{Statement}
 use Rattle.items.specs.Statements.{All, Names, AllName}
 use Rattle.rules.specs.declared.kinds.Kind.{Kind}
 use Rattle.rules.specs.Facts.{Relation}
 use Rattle.rules.specs.Stated.{selection, Stated}
 use Rattle.rules.specs.Support.{supported, under_child, under_label}
-use Rattle.rules.proofs.Logic.{both, decided, refuted, contrary}
+use Rattle.rules.proofs.Logic.{both, decided}
 use Rattle.rules.proofs.Lists.{all_name_more, all_from}
 use Rattle.trees.proofs.Structures.{Laws}
 use Rattle.trees.proofs.Extensions.{Extends, Extension, unextended, further}
@@ -41,7 +42,7 @@ NoneSupported st r qs = All (λ q. supported st r q ≡ false) qs
 
 module _ {n n' : ℕ} {st st' : List Statement} {r r' : Relation} (e : Extends n st r n' st' r') where
   still_unsupported : (q : Statement) → Names n q → supported st r q ≡ false → supported st' r' q ≡ false
-  still_unsupported q h p = refuted _ (λ p'. contrary (e.conserves q h p') p)
+  still_unsupported q h p = false_from_ne_true _ (λ p'. both_ways _ p (e.conserves q h p'))
 
   still_breakable : (q : Statement) → Names n q → Breakable n st r q → Breakable n' st' r' q
   unfolding supported
@@ -72,7 +73,7 @@ missing : (n : ℕ) (st : List Statement) (r : Relation) (i f j : ℕ) → j < n
 unfolding supported
 missing n st r i f j h u =
     decided (under_child st r i f j)
-    (λ p. inr (new_below n st r i f j h ∙ refuted _ (λ q. contrary (both p q) u)))
+    (λ p. inr (new_below n st r i f j h ∙ false_from_ne_true _ (λ q. both_ways _ u (both p q))))
     (λ p. inl (below_new n st r i f j h ∙ p))
 
 own_child : {n : ℕ} {st : List Statement} {r : Relation} (L : Laws n st r) (i f j : ℕ) (h : i < n) → j < n

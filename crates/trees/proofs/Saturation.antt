@@ -2,13 +2,13 @@
 use Prim.Native.Nat.{ℕ, ◌<◌}
 use mathlib.Core.List.{List}
 use mathlib.Core.Logic.{⊎_elim}
+use Rattle.std.proofs.lemmas.Bool.{both_ways}
 use Rattle.items.specs.declared.items.Statement.{Statement}
 use Rattle.items.specs.Statements.{Names, AllName}
 use Rattle.rules.specs.declared.kinds.Kind.{Kind}
 use Rattle.rules.specs.Facts.{Relation}
 use Rattle.rules.specs.Stated.{selection}
 use Rattle.rules.specs.Support.{supported}
-use Rattle.rules.proofs.Logic.{contrary}
 use Rattle.rules.proofs.Lists.{all_name_more, all_by, all_from}
 use Rattle.trees.specs.Assignments.{Satisfies, Assignment, SatisfiesAll, Falsifies, FalsifiesAll}
 use Rattle.trees.specs.Trees.{IsTree, Below, Child}
@@ -29,8 +29,8 @@ module _ {n : ℕ} {st : List Statement} {r : Relation} (L : Laws n st r) where
 
   breaks_selection : (i f j : ℕ) → j < n → Differs n st r i f j → Child (met i) f (met j) → ⊥
   breaks_selection i f j h d c =
-      ⊎_elim (λ p. contrary (shows_ordered L j z h (equal_children j z c own_child)) p)
-      (λ p. contrary (shows_ordered L z j d.variable (equal_children z j own_child c)) p) d.differs
+      ⊎_elim (λ p. both_ways _ p (shows_ordered L j z h (equal_children j z c own_child)))
+      (λ p. both_ways _ p (shows_ordered L z j d.variable (equal_children z j own_child c))) d.differs
     where
       z : ℕ
       z = d.child
@@ -44,11 +44,11 @@ module _ {n : ℕ} {st : List Statement} {r : Relation} (L : Laws n st r) where
 
   breaks : (q : Statement) → Names n q → Breakable n st r q → Falsifies met q
   unfolding supported
-  breaks (Statement.Ordering i j) h p k = contrary (shows_ordered L i.0 j.0 h.0 k) p
-  breaks (Statement.Compatibility i j) h p k = contrary (shows_compatible L i.0 j.0 h.0 h.1 k) p
+  breaks (Statement.Ordering i j) h p k = both_ways _ p (shows_ordered L i.0 j.0 h.0 k)
+  breaks (Statement.Compatibility i j) h p k = both_ways _ p (shows_compatible L i.0 j.0 h.0 h.1 k)
   breaks (Statement.Selection i f j) h p k = breaks_selection i.0 f.0 j.0 h.1 p k
   breaks (Statement.Labelling i a) h p k =
-      contrary ((marked_extends L).conserves (Statement.Labelling i a) h (least_label (marked_laws L) i.0 a.0 k)) p
+      both_ways _ p ((marked_extends L).conserves (Statement.Labelling i a) h (least_label (marked_laws L) i.0 a.0 k))
 
   all_breaks : (qs : List Statement) → AllName n qs → AllBreakable n st r qs → FalsifiesAll met qs
   all_breaks qs = all_from (Names n) (Breakable n st r) (Falsifies met) qs breaks
