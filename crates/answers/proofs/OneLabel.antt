@@ -24,7 +24,7 @@ use Rattle.rules.proofs.Clashing.{differ_by, differ_of, clashing, not_clashing}
 use Rattle.labels.specs.declared.spread.Spread.{Spread}
 use Rattle.labels.specs.Spreads.{spread_at, has_other}
 use Rattle.labels.specs.Labels.{LabelsStand, NoLabelling, other_stated}
-use Rattle.labels.proofs.Kept.{subject_of, label_of, other_by, other_of, other_told, several_two}
+use Rattle.labels.proofs.Kept.{no_label, subject_of, label_of, other_by, other_of, other_told, several_two}
 use Rattle.answers.specs.Supports.{SingleLabels}
 use Rattle.answers.proofs.Logic.{second_alike}
 use Rattle.answers.proofs.Ranges.{any_in_range, same_below}
@@ -43,10 +43,6 @@ unfolding meets
 met_sought {n} r {st} {spreads} stand i a =
     any_in_range (met_at r spreads i a) n
     ∙ same_below n (met_at r spreads i a) _ λ j h. second_alike (r Kind.Compatible i j) (other_told (stand.at j h) a)
-
-pub no_label : (kind : Kind) (i j : ℕ) → NoLabelling (fact kind i j)
-no_label Kind.Ordered i j = tt
-no_label Kind.Compatible i j = tt
 
 -- what is closed by more statements, labels aside, is closed by fewer
 pub fewer_closed : {n : ℕ} {st st' : List Statement} {R : Kind → ℕ → ℕ → Type 0}

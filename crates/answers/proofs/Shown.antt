@@ -1,11 +1,12 @@
 -- What shows support, sought in the list of selections and among the variables.
 use Prim.Native.Nat.{ℕ, ◌<◌}
 use lib.ListN.{length, get_or}
-use mathlib.Core.Bool.{Bool, true, false, ◌&&◌, false≢true}
+use mathlib.Core.Bool.{Bool, true, false, ◌&&◌}
 use mathlib.Core.List.{List}
 use mathlib.Core.Path.{◌≡◌, refl, sym, ap, ◌∙◌}
 use Rattle.std.specs.Cmp.Derive.{both_true}
 use Rattle.std.specs.List.{list_any, range_with_len}
+use Rattle.std.proofs.lemmas.Bool.{and_parts}
 use Rattle.std.proofs.lemmas.List.{get_or_default}
 use Rattle.std.proofs.lemmas.List.Folds.{list_any_at}
 use Rattle.fields.specs.declared.numbers.Feature.{Feature}
@@ -34,15 +35,6 @@ use Rattle.answers.specs.Supports.{SingleLabels, IsSelection, is_under, is_over,
 use Rattle.answers.proofs.Logic.{fails_first, second_decides}
 use Rattle.answers.proofs.Ranges.{passing_at, any_in_range}
 
--- tests of which both pass
-first_passes : (a b : Bool) → a && b ≡ true → a ≡ true
-first_passes true b p = refl
-first_passes false b p = p
-
-second_passes : (a b : Bool) → a && b ≡ true → b ≡ true
-second_passes true b p = p
-second_passes false b p = absurd (false≢true p)
-
 -- each of the list is lawful
 pub lawful_at : {n : ℕ} {list : List Selection} → Selections n list → (s : Selection) (k : ℕ) → k < length list
     → s ≡ get_or list k s → IsSelection n s
@@ -64,9 +56,9 @@ module _ {n : ℕ} {st : List Statement} {list : List Selection} (lawful : Selec
       same_tests _ _
       (λ p. passing_at (is_under r i f j) list (selection_of 0 0 0) p λ k h q.
       let s = selection_at list k in
-      let rest = second_passes (same s.feature.0 f) _ q in
-      under_by r (stated_at k h (first_passes _ _ q)) (first_passes (r Kind.Ordered s.subject.0 i) _ rest)
-      (second_passes (r Kind.Ordered s.subject.0 i) _ rest))
+      let parts = and_parts (same s.feature.0 f) _ q in
+      let rest = and_parts (r Kind.Ordered s.subject.0 i) _ parts.1 in
+      under_by r (stated_at k h parts.0) rest.0 rest.1)
       (λ p. under_of st r i f j p λ k m s a b.
       let l = stand.listed k f m s in
       list_any_at (is_under r i f j) list l.at (selection_of 0 0 0) l.in_list
@@ -78,9 +70,9 @@ module _ {n : ℕ} {st : List Statement} {list : List Selection} (lawful : Selec
       same_tests _ _
       (λ p. passing_at (is_over r i f j) list (selection_of 0 0 0) p λ k h q.
       let s = selection_at list k in
-      let rest = second_passes (same s.feature.0 f) _ q in
-      over_by r (stated_at k h (first_passes _ _ q)) (first_passes (r Kind.Ordered i s.subject.0) _ rest)
-      (second_passes (r Kind.Ordered i s.subject.0) _ rest))
+      let parts = and_parts (same s.feature.0 f) _ q in
+      let rest = and_parts (r Kind.Ordered i s.subject.0) _ parts.1 in
+      over_by r (stated_at k h parts.0) rest.0 rest.1)
       (λ p. over_of st r i f j p λ k m s a b.
       let l = stand.listed k f m s in
       list_any_at (is_over r i f j) list l.at (selection_of 0 0 0) l.in_list
@@ -98,8 +90,8 @@ label_sought n t {st} {spreads} stand one i a =
     any_in_range (label_at (facts n t) spreads i a) n
     ∙ same_tests _ _
     (λ p. below_one n (label_at (facts n t) spreads i a) p λ k h q.
-    label_by (facts n t) (only_stated (stand.at k h) (first_passes _ _ q))
-    (second_passes (is_only (spread_at spreads k) a) _ q))
+    let parts = and_parts (is_only (spread_at spreads k) a) _ q in
+    label_by (facts n t) (only_stated (stand.at k h) parts.0) parts.1)
     (λ p. label_under st (facts n t) i a p λ k s o.
     let h = fact_row n t Kind.Ordered k i o in
     below_by _ n k h (both_true (stated_only (stand.at k h) (one.single k h) s) o))

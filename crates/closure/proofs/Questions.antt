@@ -4,7 +4,7 @@ use mathlib.Core.Bool.{Bool, true, false}
 use mathlib.Core.List.Memᴰ
 use mathlib.Core.List.{List}
 use mathlib.Core.Logic.{◌⊎◌, inl, inr}
-use mathlib.Core.Path.{◌≡◌, sym, ap, ◌∙◌}
+use mathlib.Core.Path.{◌≡◌, sym, ap, subst, ◌∙◌}
 use Rattle.std.specs.Prelude.{Option, is_some}
 use Rattle.fields.specs.declared.numbers.Feature.{Feature}
 use Rattle.fields.specs.declared.numbers.Label.{Label}
@@ -29,8 +29,7 @@ use Rattle.labels.specs.declared.spread.Spread.{Spread}
 use Rattle.labels.specs.Spreads.{spread_below, can_clash}
 use Rattle.labels.proofs.Skip.{skip}
 use Rattle.answers.specs.Clashes.{ClashTold, LabelClashTold}
-use Rattle.answers.proofs.OneLabel.{no_label}
-use Rattle.derivation.proofs.Descending.{to_size}
+use Rattle.labels.proofs.Kept.{no_label}
 use Rattle.derivation.proofs.Stands.{statement_pairs, fact_said, said_fact, no_subject}
 use Rattle.closure.specs.Trials.{Nothing, WithOne, before, last, Searched, Tried}
 use Rattle.closure.specs.Trials.{Standing, Consistent}
@@ -96,7 +95,7 @@ module _ {n : ℕ} {closed : List ℕ} {groups : Groups} {spreads : List Spread}
       → Tried n (Consistent n closed groups spreads) q r
   label_told {r = r} {a = a} x q same d g found =
       let e = read_label d g in
-      let told = to_size (λ z. LabelClashTold z closed spreads x a.0 r) same found in
+      let told = subst (λ z. LabelClashTold z closed spreads x a.0 r) same found in
       rw e (record {
         answer = λ st consistent.
             let stands = consistent.stands in

@@ -2,7 +2,7 @@
 use Prim.Native.Nat.{ℕ}
 use mathlib.Core.Bool.{Bool}
 use mathlib.Core.List.{List, [], ◌∷◌, ◌++◌}
-use mathlib.Core.Path.{◌≡◌, sym, ap, ◌∙◌}
+use mathlib.Core.Path.{◌≡◌, sym, ap, subst, ◌∙◌}
 use Rattle.std.specs.Prelude.{Option, None, is_some}
 use Rattle.items.specs.declared.items.Statement.{Statement}
 use Rattle.items.specs.Statements.{Names, AllName}
@@ -27,7 +27,6 @@ use Rattle.answers.specs.Supports.{SingleLabels, SupportTold}
 use Rattle.answers.proofs.OneLabel.{single_labels_lem}
 use Rattle.derivation.specs.declared.pairs.Pair.{Pair}
 use Rattle.derivation.specs.Stands.{PairsStand, Pairs, Deriving, DerivedFrom}
-use Rattle.derivation.proofs.Descending.{at_size}
 use Rattle.closure.specs.Trials.{Trying, Asking, Standing, Tried}
 
 -- groups made of a selection list
@@ -57,7 +56,7 @@ module _ {n : ℕ} {list : List Selection} {before groups : Groups} (lawful : Se
     may_ask g q same copied named =
         record {
           copied = copied;
-          trying = at_size (λ z. Trying z t groups) same may_try;
+          trying = subst (λ z. Trying z t groups) (sym same) may_try;
           names = named;
         }
 

@@ -3,7 +3,7 @@ use Prim.Native.Nat.{ℕ, ◌+◌, ◌*◌, ◌<◌, ◌≤◌}
 use lib.ListN.{length}
 use mathlib.Core.List.{List, [], ◌∷◌, ◌++◌}
 use mathlib.Core.Logic.{inl, inr, ⊎_elim}
-use mathlib.Core.Path.{◌≡◌}
+use mathlib.Core.Path.{◌≡◌, subst}
 use native.Mathlib.Nat.{mul-le-mul}
 use native.Mathlib.Omega.{arith}
 use Rattle.fields.specs.Limits.{most_variables}
@@ -20,7 +20,6 @@ use Rattle.facts.proofs.Moving.{moves_then, ready_after}
 use Rattle.selections.specs.declared.grouped.Groups.{Groups}
 use Rattle.selections.specs.Groups.{Grouped}
 use Rattle.derivation.specs.Settled.{Handed, Starting, Settled}
-use Rattle.derivation.proofs.Descending.{to_size, at_size}
 use Rattle.derivation.proofs.Runs.{handed_on}
 use Rattle.closure.specs.Trials.{Trying, TryingFact, Tries, SubjectQueued}
 
@@ -86,11 +85,11 @@ module _ {n : ℕ} {t : List ℕ} {queue : List Entry} {groups : Groups} {i j : 
 
 -- the run of the queue, of one number of variables or an equal one
 pub starting_at : {m n : ℕ} {s : State} {groups : Groups} → m ≡ n → Starting n s groups → Starting m s groups
-starting_at {s = s} {groups = groups} same = at_size (λ z. Starting z s groups) same
+starting_at {s = s} {groups = groups} same = subst (λ z. Starting z s groups) (sym same)
 
 pub settled_to : {m n : ℕ} {s s' : State} {groups : Groups} → m ≡ n → Settled m (Grouped groups) s s'
     → Settled n (Grouped groups) s s'
-settled_to {s = s} {s' = s'} {groups = groups} same = to_size (λ z. Settled z (Grouped groups) s s') same
+settled_to {s = s} {s' = s'} {groups = groups} same = subst (λ z. Settled z (Grouped groups) s s') same
 
 -- an entry more
 module _ (queue queue' : List Entry) (x y : ℕ) (pushed : queue' ≡ queue ++ (entry x y ∷ [])) where

@@ -4,7 +4,7 @@ use lib.ListN.{length, replicate}
 use mathlib.Core.Bool.{true}
 use mathlib.Core.List.{List, []}
 use mathlib.Core.Logic.{inl, ⊎_elim}
-use mathlib.Core.Path.{◌≡◌, refl, sym, ◌∙◌}
+use mathlib.Core.Path.{◌≡◌, refl, sym, subst, ◌∙◌}
 use native.Mathlib.Nat.{mul-le-mul}
 use native.Mathlib.Omega.{arith}
 use Rattle.fields.specs.Limits.{most_variables}
@@ -25,7 +25,6 @@ use Rattle.selections.specs.Groups.{Grouped}
 use Rattle.derivation.specs.declared.pairs.Pair.{Pair}
 use Rattle.derivation.specs.Settled.{Starting, Settled}
 use Rattle.derivation.specs.Stands.{SaidBy, Paired, DerivedFrom, InsertingPairs, Deriving}
-use Rattle.derivation.proofs.Descending.{to_size, at_size}
 use Rattle.derivation.proofs.Equal.{derived_framed, derived_stated, derived_descends, settled_derived}
 
 -- 3 says both
@@ -126,29 +125,29 @@ module _ {n : ℕ} (t₀ : List ℕ) {t : List ℕ} {queue : List Entry} {pairs 
     (square : length t₀ ≡ n * n) (cleared : t ≡ replicate (length t₀) 0) (empty : queue ≡ []) (lawful : Deriving n pairs groups) where
   pub may_start : {m : ℕ} → m ≡ n → Ready m (state t queue)
   may_start same =
-      at_size (λ z. Ready z (state t queue)) same (none_ready n t₀ t queue square cleared empty lawful.few)
+      subst (λ z. Ready z (state t queue)) (sym same) (none_ready n t₀ t queue square cleared empty lawful.few)
 
   module _ {m : ℕ} {s₁ : State} (same : m ≡ n)
       (added : Added m (Among 0 m (λ i. Said 3 i i)) (state t queue) s₁) where
     reflexive : Added n (Among 0 n (λ i. Said 3 i i)) (state t queue) s₁
-    reflexive = to_size (λ z. Added z (Among 0 z (λ i. Said 3 i i)) (state t queue) s₁) same added
+    reflexive = subst (λ z. Added z (Among 0 z (λ i. Said 3 i i)) (state t queue) s₁) same added
 
     pub may_insert : {k : ℕ} → k ≡ n → InsertingPairs k s₁ pairs
     may_insert same' =
-        at_size (λ z. InsertingPairs z s₁ pairs) same'
+        subst (λ z. InsertingPairs z s₁ pairs) (sym same')
         (pairs_next n t₀ t queue square cleared empty reflexive lawful)
 
     module _ {m' : ℕ} {s₂ : State} (same' : m' ≡ n) (inserted : Steps m' (Paired pairs) s₁ s₂) where
       steps : Steps n (Paired pairs) s₁ s₂
-      steps = to_size (λ z. Steps z (Paired pairs) s₁ s₂) same' inserted
+      steps = subst (λ z. Steps z (Paired pairs) s₁ s₂) same' inserted
 
       pub may_run : {k : ℕ} → k ≡ n → Starting k s₂ groups
       may_run same'' =
-          at_size (λ z. Starting z s₂ groups) same''
+          subst (λ z. Starting z s₂ groups) (sym same'')
           (run_next n t₀ t queue square cleared empty reflexive lawful steps)
 
       pub is_derived : {k : ℕ} {s₃ : State} → k ≡ n → Settled k (Grouped groups) s₂ s₃
           → DerivedFrom n pairs groups s₃.table
       is_derived {s₃ = s₃} same'' settled =
           derived_all n t₀ t queue square cleared empty reflexive lawful steps
-          (to_size (λ z. Settled z (Grouped groups) s₂ s₃) same'' settled)
+          (subst (λ z. Settled z (Grouped groups) s₂ s₃) same'' settled)

@@ -29,13 +29,6 @@ use Rattle.derivation.specs.Descent.{Under, UnderAll, HandedDown, Running, Handi
 use Rattle.derivation.specs.Descent.{NoRowNew, NextRow, Visiting}
 use Rattle.derivation.specs.Descent.{Visited}
 
--- a fact of one number of variables, at an equal one
-pub to_size : (P : ℕ → Type 0) {m n : ℕ} → m ≡ n → P m → P n
-to_size P same p = subst P same p
-
-pub at_size : (P : ℕ → Type 0) {m n : ℕ} → m ≡ n → P n → P m
-at_size P same p = subst P (sym same) p
-
 -- a place that is not new has nothing to tell, and a new one has the feature
 module _ (n : ℕ) (t : List ℕ) (groups : Groups) (w f i k : ℕ) where
   new_feature : is_new n t groups w f i k ≡ true → feature_at groups k ≡ f
@@ -228,9 +221,9 @@ module _ {n : ℕ} {s : State} {groups : Groups} {w u v : ℕ} (handing : Handin
         → Steps m (UnderAll groups w (feature_at groups at) (variable_at groups at) v) s' s''
         → HandedUpto n groups w u v s s'' (at + 1)
     handed_next {s'' = s''} at same found told =
-        let row = to_size (λ z. NextRow z s'.table groups w (start_at groups v) (end_at groups v) k (end_at groups u) at) same found in
+        let row = subst (λ z. NextRow z s'.table groups w (start_at groups v) (end_at groups v) k (end_at groups u) at) same found in
         let row_told = UnderAll groups w (feature_at groups at) (variable_at groups at) v in
-        let steps = to_size (λ z. Steps z row_told s' s'') same told in
+        let steps = subst (λ z. Steps z row_told s' s'') same told in
         let before = handed_pass at row.behind (omega (arith, row.ahead)) row.passed in
         record {
           along = along_next before.along row.ahead;
@@ -242,7 +235,7 @@ module _ {n : ℕ} {s : State} {groups : Groups} {w u v : ℕ} (handing : Handin
         → NoRowNew m s'.table groups w (start_at groups v) (end_at groups v) k (end_at groups u)
         → Steps n (HandedDown groups w u v) s s'
     handed_all same passed =
-        let none = to_size (λ z. NoRowNew z s'.table groups w (start_at groups v) (end_at groups v) k (end_at groups u)) same passed in
+        let none = subst (λ z. NoRowNew z s'.table groups w (start_at groups v) (end_at groups v) k (end_at groups u)) same passed in
         decided (less k (end_at groups u))
         (λ p. let h = less_true _ _ p in (handed_pass (end_at groups u) (omega arith) (omega arith) none).steps)
         (λ p.
@@ -279,8 +272,8 @@ module _ {n : ℕ} {s : State} {groups : Groups} {w i v : ℕ} (handing : Handin
         → FirstNew m s'.table groups w f i k (end_at groups v) at → a ≡ i → x ≡ variable_at groups at
         → Steps m (Said w a x) s' s'' → ToldUpto n groups w f i v s s'' (at + 1)
     told_next {s'' = s''} at a x same found first e told =
-        let place = to_size (λ z. FirstNew z s'.table groups w f i k (end_at groups v) at) same found in
-        let steps = to_size (λ z. Steps z (Said w i x) s' s'') same (rw first at told) in
+        let place = subst (λ z. FirstNew z s'.table groups w f i k (end_at groups v) at) same found in
+        let steps = subst (λ z. Steps z (Said w i x) s' s'') same (rw first at told) in
         let before = told_pass at place.behind (omega (arith, place.ahead)) place.passed in
         record {
           along = along_next before.along place.ahead;
@@ -293,7 +286,7 @@ module _ {n : ℕ} {s : State} {groups : Groups} {w i v : ℕ} (handing : Handin
     pub told_all : {m : ℕ} → m ≡ n → NoneNew m s'.table groups w f i k (end_at groups v)
         → Steps n (UnderAll groups w f i v) s s'
     told_all same passed =
-        let none = to_size (λ z. NoneNew z s'.table groups w f i k (end_at groups v)) same passed in
+        let none = subst (λ z. NoneNew z s'.table groups w f i k (end_at groups v)) same passed in
         decided (less k (end_at groups v))
         (λ p. let h = less_true _ _ p in (told_pass (end_at groups v) (omega arith) (omega arith) none).steps)
         (λ p. steps_along (Under groups w f i) so_far.along (less_false _ _ p) so_far.steps)

@@ -2,7 +2,7 @@
 use Prim.Native.Nat.{ℕ, ◌+◌, ◌<◌, ◌≤◌}
 use lib.ListN.{length}
 use mathlib.Core.Logic.{◌⊎◌, inl, inr, ⊎_elim}
-use mathlib.Core.Path.{◌≡◌, ap, ◌∙◌}
+use mathlib.Core.Path.{◌≡◌, ap, subst, ◌∙◌}
 use native.Mathlib.Omega.{arith}
 use Rattle.rules.specs.declared.kinds.Kind.{Kind}
 use Rattle.rules.specs.Facts.{Relation, Holds, Within}
@@ -18,7 +18,6 @@ use Rattle.selections.specs.Groups.{Grouped}
 use Rattle.selections.specs.Stands.{Selected}
 use Rattle.derivation.specs.Descent.{Visited}
 use Rattle.derivation.specs.Settled.{Handed, Descends, Pending, Starting, Settled}
-use Rattle.derivation.proofs.Descending.{to_size}
 
 -- the queue is no longer than its room
 pub tail_bound : {n : ℕ} {s : State} → Ready n s → length s.queue ≤ queue_room
@@ -61,7 +60,7 @@ module _ {n : ℕ} {s : State} {groups : Groups}
     module _ {m : ℕ} {s'' : State} (entry : Entry) (same : m ≡ n) (e : entry ≡ entry_at s'.queue head)
         (h : head < length s'.queue) (visited : Steps m (Visited m s'.table groups entry) s' s'') where
       steps : Steps n (Visited n s'.table groups entry) s' s''
-      steps = to_size (λ z. Steps z (Visited z s'.table groups entry) s' s'') same visited
+      steps = subst (λ z. Steps z (Visited z s'.table groups entry) s' s'') same visited
 
       handed_entry : (kind : Kind) → Holds (facts n s'.table) kind entry.first.0 entry.second.0
           → Handed chosen (facts n s''.table) kind entry.first.0 entry.second.0

@@ -6,6 +6,7 @@ use mathlib.Core.List.{List, [], ◌∷◌, ◌++◌}
 use mathlib.Core.Logic.{⊎_elim}
 use mathlib.Core.Path.{◌≡◌, refl, subst}
 use native.Mathlib.Omega.{arith}
+use Rattle.std.proofs.lemmas.List.{get_or_push}
 use Rattle.std.proofs.lemmas.Bool.{both_ways}
 use Rattle.fields.specs.Tests.{less, same}
 use Rattle.items.specs.declared.items.Statement.{Statement}
@@ -18,7 +19,7 @@ use Rattle.rules.specs.Tables.{says, kind_cell}
 use Rattle.rules.proofs.More.{still, stated_of}
 use Rattle.facts.specs.Additions.{Facts, Said, Among}
 use Rattle.facts.proofs.Sets.{among_none}
-use Rattle.selections.proofs.Appended.{entries_of, single, below_both, at_single, at_first, at_second, at_either}
+use Rattle.selections.proofs.Appended.{entries_of, below_both, at_single, at_first, at_second, at_either}
 use Rattle.selections.proofs.Stands.{selection_in}
 use Rattle.derivation.specs.declared.pairs.Pair.{Pair}
 use Rattle.derivation.specs.Stands.{pair_of, no_pair, Pairs, SaidBy, Paired, PairsStand}
@@ -91,9 +92,9 @@ no_pairs_stand =
 one_pair : (n w i j : ℕ) → w < 4 → i < n → j < n → Pairs n (pair_of w i j ∷ [])
 one_pair n w i j small left right =
     record {
-      cell_small = λ k h. rw (single (pair_of w i j) no_pair k h) small;
-      left_below = λ k h. rw (single (pair_of w i j) no_pair k h) left;
-      right_below = λ k h. rw (single (pair_of w i j) no_pair k h) right;
+      cell_small = λ k h. rw (get_or_push [] (pair_of w i j) no_pair k (omega arith)) small;
+      left_below = λ k h. rw (get_or_push [] (pair_of w i j) no_pair k (omega arith)) left;
+      right_below = λ k h. rw (get_or_push [] (pair_of w i j) no_pair k (omega arith)) right;
     }
 
 module _ {w x y : ℕ} {kind : Kind} {i j : ℕ} where

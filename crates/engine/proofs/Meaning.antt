@@ -5,6 +5,7 @@ use lib.ListN.{length}
 use lib.Seq.{take_at}
 use mathlib.Core.Bool.{true, false}
 use mathlib.Core.List.{List}
+use mathlib.Core.Logic.Iff.{trans}
 use mathlib.Core.Path.{◌≡◌, refl, ap, ◌∙◌}
 use native.Mathlib.Omega.{arith}
 use Rattle.std.proofs.lemmas.Bool.{both_ways}
@@ -33,16 +34,16 @@ use Rattle.promise.specs.Checks.{Checked, Returned}
 use Rattle.promise.specs.Promise.{IsAccepted, IsRefused, FactsTold, ByteMeans, Means}
 use Rattle.promise.proofs.Clashes.{nowhere, between}
 use Rattle.promise.proofs.Shown.{by_case, read, never_accepted, never_refused, accepted_number, reply_byte, at_question}
-use Rattle.promise.proofs.Shown.{number_always, number_never, number_open, through}
+use Rattle.promise.proofs.Shown.{number_always, number_never, number_open}
 
 byte_means : (C : Assignment → Type 0) (s : Sheet) (q : Query) (byte : ℕ) → byte ≡ reply_number (reply_to s q)
     → Answers C q (reply_to s q) → ByteMeans C q byte
 byte_means C s q byte e answers =
     rw e
     record {
-      always = through (number_always (reply_to s q)) answers.is_always;
-      never = through (number_never (reply_to s q)) answers.is_never;
-      undecided = through (number_open (reply_to s q)) answers.is_open;
+      always = trans (number_always (reply_to s q)) answers.is_always;
+      never = trans (number_never (reply_to s q)) answers.is_never;
+      undecided = trans (number_open (reply_to s q)) answers.is_open;
     }
 
 -- demands 2 and 3 of an accepted sheet

@@ -17,7 +17,6 @@ use Rattle.rules.proofs.Derived.{derived_bytes}
 use Rattle.selections.specs.declared.grouped.Groups.{Groups}
 use Rattle.answers.specs.Cells.{Lent}
 use Rattle.answers.specs.Clashes.{ClashTold}
-use Rattle.derivation.proofs.Descending.{to_size}
 use Rattle.statements.specs.declared.lists.Lists.{Lists}
 use Rattle.statements.specs.Lists.{Stand}
 use Rattle.closure.specs.declared.closed.Closed.{Closed}
@@ -61,7 +60,7 @@ module _ {b : List ℕ} {x : Accepted} {facts₀ work replies : List ℕ} (a : A
       clash_told : ClashTold x.header.variables t lists.labels.spreads c.clash
       clash_told =
           rw (← table, ← labels)
-          (to_size (λ n. ClashTold n (table_of c) (spreads_of c) c.clash) sizes told.clash)
+          (subst (λ n. ClashTold n (table_of c) (spreads_of c) c.clash) sizes told.clash)
 
       clash_is_first : c.clash ≡ clash_of (sheet_of b).stated (sheet_of b).n
       clash_is_first =

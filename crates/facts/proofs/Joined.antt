@@ -5,6 +5,7 @@ use mathlib.Core.Bool.{true, false}
 use mathlib.Core.Path.{◌≡◌, refl, sym, ap, ◌∙◌}
 use native.Mathlib.Omega.{arith}
 use Rattle.std.proofs.lemmas.Bool.{both_ways}
+use Rattle.std.proofs.lemmas.Nat.{or_lt}
 use Rattle.fields.specs.Tests.{less, same}
 use Rattle.rules.specs.Connectives.{◌or◌}
 use Rattle.rules.specs.declared.kinds.Kind.{Kind}
@@ -19,15 +20,6 @@ cell_cases P a b c d (suc zero) h = b
 cell_cases P a b c d (suc (suc zero)) h = c
 cell_cases P a b c d (suc (suc (suc zero))) h = d
 cell_cases P a b c d (suc (suc (suc (suc cell)))) h = absurd (omega arith)
-
-pub joined_small : (c w : ℕ) → c < 4 → w < 4 → bit_or c w < 4
-joined_small c w h g =
-    cell_cases (λ x. bit_or x w < 4)
-    (cell_cases (λ y. bit_or 0 y < 4) (omega arith) (omega arith) (omega arith) (omega arith) w g)
-    (cell_cases (λ y. bit_or 1 y < 4) (omega arith) (omega arith) (omega arith) (omega arith) w g)
-    (cell_cases (λ y. bit_or 2 y < 4) (omega arith) (omega arith) (omega arith) (omega arith) w g)
-    (cell_cases (λ y. bit_or 3 y < 4) (omega arith) (omega arith) (omega arith) (omega arith) w g)
-    c h
 
 Joins : Kind → ℕ → ℕ → Type 0
 Joins kind c w = says kind (bit_or c w) ≡ says kind c or says kind w
@@ -68,7 +60,7 @@ module _ {C : Type 0} (c w : ℕ) (h : c < 4) (g : w < 4) (next : (kind : Kind) 
   pub gains : (bit_or c w ≡ c → ⊥) → C
   gains changed =
       said_or Kind.Ordered λ more. said_or Kind.Compatible λ too.
-      absurd (changed (same_cell (bit_or c w) c (joined_small c w h g) h λ kind. same_said kind (of kind more too)))
+      absurd (changed (same_cell (bit_or c w) c (or_lt 2 c w h g) h λ kind. same_said kind (of kind more too)))
     where
       of : (kind : Kind) → (says Kind.Ordered w ≡ true → says Kind.Ordered c ≡ true)
           → (says Kind.Compatible w ≡ true → says Kind.Compatible c ≡ true) → says kind w ≡ true → says kind c ≡ true

@@ -5,10 +5,10 @@ use lib.ListN.{length}
 use mathlib.Core.Bool.{Bool, true, not}
 use mathlib.Core.List.{List, [], ◌∷◌, ◌++◌}
 use mathlib.Core.Logic.{inl, inr}
-use mathlib.Core.Path.{◌≡◌, sym, ap, subst, ◌∙◌}
+use mathlib.Core.Path.{◌≡◌, sym, ap, ◌∙◌}
 use native.Mathlib.Omega.{arith}
 use Rattle.std.proofs.lemmas.Bool.{both_ways}
-use Rattle.fields.specs.Tests.{same}
+use Rattle.std.proofs.lemmas.Nat.{or_lt}
 use Rattle.fields.proofs.Choice.{is_same}
 use Rattle.rules.specs.Connectives.{◌or◌}
 use Rattle.rules.specs.declared.kinds.Kind.{Kind}
@@ -23,12 +23,12 @@ use Rattle.table.proofs.Entries.{pushed_size, pushed_kept, pushed_entry, pushed_
 use Rattle.table.proofs.Stores.{store_there, store_elsewhere, store_shape, there_or}
 use Rattle.facts.specs.Additions.{Said, Added}
 use Rattle.facts.specs.Insertion.{Taking}
-use Rattle.facts.proofs.Joined.{joined_small, joined_says, says_already, gains}
+use Rattle.facts.proofs.Joined.{joined_says, gains}
 use Rattle.facts.proofs.Moving.{more_facts, fact_bound}
 
 -- what holds of a pair holds of the same pair by other names
 at_pair : (P : ℕ → ℕ → Type 0) {i j x y : ℕ} → i ≡ x → j ≡ y → P x y → P i j
-at_pair P {i} {j} {x} {y} e f p = subst (λ a. P a j) (sym e) (subst (λ b. P x b) (sym f) p)
+at_pair P e f p = rw (e, f) p
 
 module _ (n : ℕ) (s : State) (w x y : ℕ) (taking : Taking n s w x y) where
   abbrev old : ℕ
@@ -117,7 +117,7 @@ module _ (n : ℕ) (s : State) (w x y : ℕ) (taking : Taking n s w x y) where
               record {
                 shape =
                     store_shape n s.table x y (bit_or old w) taking.ready.shape taking.first taking.second
-                    (joined_small old w old_small taking.cell);
+                    (or_lt 2 old w old_small taking.cell);
                 grows = new_grows;
                 later = omega (arith, size);
                 kept = pushed_kept s.queue (entry x y);

@@ -15,6 +15,8 @@ use Rattle.fields.specs.Tests.{same, pick}
 use Rattle.fields.proofs.Choice.{is_same, not_same, same_true, same_false}
 use Rattle.items.specs.declared.items.Statement.{Statement}
 use Rattle.rules.specs.Stated.{labelling, Stated}
+use Rattle.rules.specs.declared.kinds.Kind.{Kind}
+use Rattle.rules.specs.Facts.{fact}
 use Rattle.rules.specs.Clashes.{labels_differ}
 use Rattle.rules.proofs.Logic.{both, first_of_and, second_of_and, decided, same_tests}
 use Rattle.rules.proofs.Some.{by_labelling, one_labelling}
@@ -24,6 +26,11 @@ use Rattle.labels.specs.declared.spread.Spread.{Spread}
 use Rattle.labels.specs.Spreads.{has_any, is_several, is_only, has_other, differ, with_labels, spread_at}
 use Rattle.labels.specs.Labels.{TwoLabels, LabelsAt, LabelsStand, spreads_with, NoLabelling, other_stated}
 use Rattle.labels.specs.Labels.{OtherTold, DifferTold}
+
+-- a fact states no label
+pub no_label : (kind : Kind) (i j : ℕ) → NoLabelling (fact kind i j)
+no_label Kind.Ordered i j = tt
+no_label Kind.Compatible i j = tt
 
 -- another label, by its test
 pub other_by : {st : List Statement} {j a b : ℕ} → Stated st (labelling j b) → (a ≡ b → ⊥) → other_stated st j a ≡ true

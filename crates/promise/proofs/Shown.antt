@@ -5,6 +5,7 @@ use lib.ListN.{length, get_or, length-map}
 use mathlib.Core.List.{List, [], ◌∷◌, ◌++◌, map}
 use mathlib.Core.Logic.{◌↔◌}
 use mathlib.Core.Option.{some}
+use mathlib.Core.Logic.Iff.{trans}
 use mathlib.Core.Path.{◌≡◌, refl, ap, subst, ◌∙◌}
 use native.Mathlib.Omega.{arith}
 use Rattle.std.proofs.lemmas.Slice.{drop-append-drop}
@@ -93,9 +94,6 @@ small_number Fault.Trailing = omega arith
 small_number Fault.ShortTable = omega arith
 small_number Fault.ShortReplies = omega arith
 
-pub through : {A B C : Type 0} → A ↔ B → B ↔ C → A ↔ C
-through p q = ((λ a. q.0 (p.0 a)), (λ c. p.1 (q.1 c)))
-
 always_supported : (s : Sheet) (q : Query) → (reply_to s q ≡ Reply.Always) ↔ Supported s q
 always_supported s (holds x) = (replied s (holds x)).always
 
@@ -183,7 +181,7 @@ module _ {b facts work replies facts' work' replies' : List ℕ} {r : ℕ}
   by_support kind k q at =
       by_case (λ x e z. absurd (omega arith))
       (λ a e is z. rw (reply_byte a e is k q at)
-      (through (number_always (reply_to (sheet_of b) q)) (always_supported (sheet_of b) q)))
+      (trans (number_always (reply_to (sheet_of b) q)) (always_supported (sheet_of b) q)))
       (λ a clash e is z. absurd (omega arith))
 
   pub refused_apart : (q : Refusal) → read ≡ Err q → IsAccepted read → ⊥

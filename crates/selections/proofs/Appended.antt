@@ -1,33 +1,26 @@
 -- Lists end to end: where an entry stands; the entries of statements in turn.
-use Prim.Native.Nat.{ℕ, zero, suc, ◌+◌, ◌-◌, ◌<◌}
+use Prim.Native.Nat.{ℕ, ◌+◌, ◌-◌, ◌<◌}
 use lib.ListN.{length, get_or, length-append, get_or-append}
 use lib.Seq.{get_or-append-add}
 use mathlib.Core.List.{List, [], ◌∷◌, ◌++◌}
-use mathlib.Core.Path.{◌≡◌, refl}
+use mathlib.Core.Logic.{⊎_elim}
+use mathlib.Core.Path.{◌≡◌}
 use native.Mathlib.Omega.{arith}
-use Rattle.fields.specs.Tests.{less}
-use Rattle.fields.proofs.Choice.{less_true, less_false}
+use Rattle.std.proofs.lemmas.Bool.{cases_lt}
+use Rattle.std.proofs.lemmas.List.{get_or_push}
 use Rattle.items.specs.declared.items.Statement.{Statement}
-use Rattle.rules.proofs.Logic.{decided}
 
 -- a list made of the entries of each statement
 abbrev pub entries_of : {A : Type 0} → (Statement → List A) → List Statement → List A
 entries_of entries [] = []
 entries_of entries (q ∷ st) = entries q ++ entries_of entries st
 
--- the entry of a list of one
-pub single : {A : Type 0} (x d : A) (k : ℕ) → k < 1 → get_or (x ∷ []) k d ≡ x
-single x d zero h = refl
-single x d (suc k) h = absurd (omega arith)
-
 -- a place of two lists is one of the first or one of the second
 place_in : {A C : Type 0} (xs ys : List A) (k : ℕ) → k < length (xs ++ ys) → (k < length xs → C)
     → ((m : ℕ) → m < length ys → k ≡ length xs + m → C) → C
 place_in xs ys k h first second =
     let size = length-append xs ys in
-    decided (less k (length xs))
-    (λ p. first (less_true _ _ p))
-    (λ p. let past = less_false _ _ p in second (k - length xs) (omega arith) (omega arith))
+    ⊎_elim first (λ past. second (k - length xs) (omega arith) (omega arith)) (cases_lt k (length xs))
 
 -- a bound of a number of all entries
 pub below_both : {A : Type 0} {b : ℕ} (number : A → ℕ) (d : A) (xs ys : List A)
@@ -40,7 +33,7 @@ below_both number d xs ys first second k h =
 -- the entry at one place has a property
 module _ {A : Type 0} (P : A → Type 0) (d : A) where
   pub at_single : (x : A) (k : ℕ) → k < 1 → P (get_or (x ∷ []) k d) → P x
-  at_single x k h p = rw (single x d k h) at p
+  at_single x k h p = rw (get_or_push [] x d k (omega arith)) at p
 
   module _ (xs ys : List A) where
     pub at_first : (k : ℕ) → k < length xs → P (get_or xs k d) → P (get_or (xs ++ ys) k d)

@@ -6,6 +6,7 @@ use mathlib.Core.List.{List, [], ◌∷◌, ◌++◌}
 use mathlib.Core.Logic.{◌⊎◌, inl, inr, ⊎_elim}
 use mathlib.Core.Path.{◌≡◌, refl, subst}
 use native.Mathlib.Omega.{arith}
+use Rattle.std.proofs.lemmas.List.{get_or_push}
 use Rattle.fields.specs.Limits.{most_variables, most_items}
 use Rattle.items.specs.declared.items.Statement.{Statement}
 use Rattle.items.specs.Statements.{Names, AllName}
@@ -13,7 +14,7 @@ use Rattle.rules.specs.Stated.{selection}
 use Rattle.selections.specs.declared.listed.Selection.{Selection}
 use Rattle.selections.specs.Listed.{selection_of, selection_at, Selections, Listed}
 use Rattle.selections.specs.Stands.{Selected, SelectionsStand}
-use Rattle.selections.proofs.Appended.{entries_of, single, below_both, at_single, at_first, at_second, at_either}
+use Rattle.selections.proofs.Appended.{entries_of, below_both, at_single, at_first, at_second, at_either}
 
 -- what a statement adds to the list: an entry where it is a selection
 abbrev pub selection_in : Statement → List Selection
@@ -105,8 +106,8 @@ statement_lawful n (Statement.Selection i f j) few names =
     record {
       few = few;
       short = omega arith;
-      subject_below = λ k h. rw (single (selection_of i.0 f.0 j.0) (selection_of 0 0 0) k h) names.0;
-      child_below = λ k h. rw (single (selection_of i.0 f.0 j.0) (selection_of 0 0 0) k h) names.1;
+      subject_below = λ k h. rw (get_or_push [] (selection_of i.0 f.0 j.0) (selection_of 0 0 0) k (omega arith)) names.0;
+      child_below = λ k h. rw (get_or_push [] (selection_of i.0 f.0 j.0) (selection_of 0 0 0) k (omega arith)) names.1;
     }
 statement_lawful n (Statement.Labelling i a) few names = no_selections n few
 

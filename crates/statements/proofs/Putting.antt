@@ -16,8 +16,7 @@ use Rattle.rules.specs.Facts.{fact}
 use Rattle.rules.proofs.Lists.{all_split}
 use Rattle.selections.specs.Listed as listed
 use Rattle.selections.proofs.Stands.{more_selections, more_selections_stand, other_than_selection}
-use Rattle.labels.specs.Labels.{NoLabelling}
-use Rattle.labels.proofs.Kept.{noted, other_kind}
+use Rattle.labels.proofs.Kept.{no_label, noted, other_kind}
 use Rattle.derivation.specs.Stands.{pair_of}
 use Rattle.rules.specs.Tables.{kind_cell}
 use Rattle.derivation.proofs.Stands.{no_subject, more_pairs, more_pairs_stand, other_than_pair}
@@ -33,10 +32,6 @@ put_same {x} {y} e p = subst (λ q. Put (q ∷ []) (pairs_in q) (selections_in q
 putting_as : {x : Lists} {q q' : Statement} → q ≡ q' → Putting (q ∷ []) (pairs_in q) (selections_in q) x
     → Putting (q' ∷ []) (pairs_in q') (selections_in q') x
 putting_as {x} e p = subst (λ q. Putting (q ∷ []) (pairs_in q) (selections_in q) x) e p
-
-no_label : (kind : Kind) (i j : ℕ) → NoLabelling (fact kind i j)
-no_label Kind.Ordered i j = tt
-no_label Kind.Compatible i j = tt
 
 module _ (x : Lists) where
   -- a pair

@@ -3,12 +3,11 @@ use Prim.Native.Nat.{ℕ, ◌+◌, ◌-◌, ◌<◌, ◌≤◌}
 use lib.ListN.{length, take, drop, length-take, length-drop, length-append, get_or-append}
 use lib.Seq.{get_or-append-add}
 use mathlib.Core.List.{List, [], ◌∷◌, ◌++◌}
+use mathlib.Core.Logic.{⊎_elim}
 use mathlib.Core.Path.{◌≡◌, sym, ap, ◌∙◌}
 use native.Mathlib.Omega.{arith}
+use Rattle.std.proofs.lemmas.Bool.{cases_eq}
 use Rattle.std.proofs.lemmas.List.{get_or-take, get_or-drop}
-use Rattle.fields.specs.Tests.{same}
-use Rattle.fields.proofs.Choice.{same_true, same_false}
-use Rattle.rules.proofs.Logic.{decided}
 use Rattle.table.specs.declared.queue.Entry.{Entry}
 use Rattle.table.specs.Queue.{entry, no_entry, entry_at, Queued, IsEntry}
 
@@ -40,12 +39,11 @@ pub first_or_later : {C : Type 0} {queue : List Entry} {from upto i j : ℕ} →
     → ((entry_at queue from).first.0 ≡ i → (entry_at queue from).second.0 ≡ j → C)
     → (Queued queue (from + 1) upto i j → C) → C
 first_or_later {queue = queue} {from = from} q first later =
-    decided (same q.at from)
+    ⊎_elim
     (λ p.
-    let e = ap (λ k. entry_at queue k) (same_true _ _ p) in
+    let e = ap (λ k. entry_at queue k) p in
     first (sym (ap (λ p. p.first.0) e) ∙ q.first) (sym (ap (λ p. p.second.0) e) ∙ q.second))
     (λ p.
-    let other = same_false _ _ p in
     later (record {
       at = q.at;
       behind = omega (arith, q.behind);
@@ -53,6 +51,7 @@ first_or_later {queue = queue} {from = from} q first later =
       first = q.first;
       second = q.second;
     }))
+    (cases_eq q.at from)
 
 -- one more entry behind the entries so far
 module _ (queue : List Entry) (e : Entry) where

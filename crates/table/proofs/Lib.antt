@@ -1,5 +1,4 @@
 -- Laws of the fact table: what cells say, where they stand, a table with another cell, and the queue's entries.
 pub mod Saying
-pub mod Places
 pub mod Stores
 pub mod Entries

@@ -1,6 +1,6 @@
 -- Where the statements clash, they clash with the question.
+use Rattle.std.proofs.Common.{subst}
 use Rattle.answers.specs.Clashes.{ClashTold}
-use Rattle.derivation.proofs.Descending.{to_size}
 use Rattle.closure.specs.Making.{table_of, spreads_of}
 use Rattle.closure.proofs.Questions.{clash_stays, all_told}
 use Rattle.closure.proofs.trials.trial.Goals as goal
@@ -9,12 +9,12 @@ pub returns-then-is_some-clause-tried : goal.returns-then-is_some-clause-tried
 returns-then-is_some-clause-tried c =
     let closed = c.args.closed.now in
     clash_stays
-    (to_size (λ n. ClashTold n (table_of closed) (spreads_of closed) closed.clash) c.requires.sizes c.requires.told.clash)
+    (subst (λ n. ClashTold n (table_of closed) (spreads_of closed) closed.clash) c.requires.sizes c.requires.told.clash)
     _ c.requires.asking.names (cc)
 
 pub returns-clause-tried : goal.returns-clause-tried
 returns-clause-tried c =
     let closed = c.args.closed.now in
     all_told
-    (to_size (λ n. ClashTold n (table_of closed) (spreads_of closed) closed.clash) c.requires.sizes c.requires.told.clash)
+    (subst (λ n. ClashTold n (table_of closed) (spreads_of closed) closed.clash) c.requires.sizes c.requires.told.clash)
     _ c.requires.asking.names (cc) c.try_where_labels_differ.ensures.tried

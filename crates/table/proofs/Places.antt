@@ -1,7 +1,0 @@
--- Where cells stand: inside the table, and each at its own place.
-use Prim.Native.Nat.{ℕ, ◌+◌, ◌*◌, ◌<◌}
-use native.Mathlib.Nat.{suc-mul, mul-le-mul_right}
-use native.Mathlib.Omega.{arith}
-
-pub inside : (n i j : ℕ) → i < n → j < n → i * n + j < n * n
-inside n i j h g = omega (arith, suc-mul i n, mul-le-mul_right n h)
