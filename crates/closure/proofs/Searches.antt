@@ -1,5 +1,5 @@
 -- The search of the queue for a pair to which F5 applies.
-use Prim.Native.Nat.{ℕ, ◌+◌, ◌-◌, ◌<◌, ◌≤◌}
+use Prim.Native.Nat.{ℕ, ◌+◌, ◌-◌, ◌<◌}
 use lib.ListN.{length, get_or}
 use mathlib.Core.Bool.{Bool, true, false}
 use mathlib.Core.List.{List}
