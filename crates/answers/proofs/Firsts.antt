@@ -25,7 +25,7 @@ module _ {C F S : Type 0} (steps : S → Option ℕ → S → Type 0) (g : Mut F
       → AlwaysYields steps (λ x. x) s (range_with_len a left) → Yields steps s xs t → FoldsTo (Misses g) f xs j → steps t o u
       → MatchOption o (Some y ≡ None) (λ x. (h : F) × Called g j (x, tt) (Some y) h)
       → (x : ℕ) × (a ≤ x) × (x < a + left) × Told x (Some y) × ((z : ℕ) → a ≤ z → z < x → Told z None)
-  stops y left a xs s t u j None e k c p m = let z : ◌≡◌ {A = ℕ} 0 1 = cc in absurd (omega arith)
+  stops y left a xs s t u j None e k c p m = absurd (cc)
   stops y zero a [] s t u j (Some x) e k c p m = absurd (e x u (subst (λ w. steps w (Some x) u) (sym k) p))
   stops y zero a (w ∷ xs) s t u j (Some x) e k c p m = absurd (e w k.0 k.1)
   stops y (suc left) a [] s t u j (Some x) e k c p m =

@@ -30,7 +30,7 @@ count_read s {h} e (a, is) =
 pub header_there : (s : List ℕ) {q : Refusal} → Err q ≡ header_of s → IsAccepted (read_sheet s) → ⊥
 header_there s e (a, is) =
     let read = (accepted_read s a is).header_is in
-    let z : ◌≡◌ {A = ℕ} 0 1 = cc in omega arith
+    cc
 
 -- and of these there are no more than there may be
 pub replies_few : (s : List ℕ) → IsAccepted (read_sheet s) → length (sheet_of s).asked ≤ most_replies

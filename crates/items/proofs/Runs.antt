@@ -75,13 +75,10 @@ run_spans place s n (suc k) c =
       inside = λ b. h.inside r.inside;
     }
 
-never : {r : Refusal} {end : Cursor} → Err r ≡ Ok end → ⊥
-never e = let z : ◌≡◌ {A = ℕ} 0 1 = cc in omega arith
-
 -- a run that ends at a cursor refuses none of its items
 pub run_reads : (place : Place) (s : List ℕ) (n : ℕ) (c end : Cursor) (left : ℕ) (r : Refusal) → 0 < left
     → items_end left place s n c ≡ Ok end → item_at place s n c ≡ Err r → ⊥
-run_reads place s n c end left r h e i = never (sym (run_refused place s n c left r h i) ∙ e)
+run_reads place s n c end left r h e i = cc (run_refused place s n c left r h i)
 
 -- the first is read, and the rest ends there too
 pub run_next : {C : Type 0} (place : Place) (s : List ℕ) (n : ℕ) (c end : Cursor) (left : ℕ) → 0 < left

@@ -33,14 +33,14 @@ use Rattle.promise.specs.Promise.{IsAccepted, IsRefused, question_in, RefusalTol
 
 -- an answer of one kind is not of another
 pub never_accepted : {r : Refusal} → IsAccepted (Err r) → ⊥
-never_accepted (a, e) = let z : ◌≡◌ {A = ℕ} 0 1 = cc in omega arith
+never_accepted (a, e) = cc
 
 pub never_refused : {a : Accepted} → IsRefused (Ok a) → ⊥
-never_refused (r, e) = let z : ◌≡◌ {A = ℕ} 0 1 = cc in omega arith
+never_refused (r, e) = cc
 
 -- what holds of every question holds of question k
 pub at_question : (P : Query → Type 0) (qs : List Query) (k : ℕ) (q : Query) → All P qs → question_in qs k ≡ some q → P q
-at_question P [] k q all e = let z : ◌≡◌ {A = ℕ} 0 1 = cc in absurd (omega arith)
+at_question P [] k q all e = absurd (cc)
 at_question P (x ∷ qs) zero q all e = let same : x ≡ q = cc in subst P same all.0
 at_question P (x ∷ qs) (suc k) q all e = at_question P qs k q all.1 e
 
@@ -51,14 +51,14 @@ question_there (x ∷ qs) zero h = (x, refl)
 question_there (x ∷ qs) (suc k) h = question_there qs k (omega arith)
 
 pub question_below : (qs : List Query) (k : ℕ) (q : Query) → question_in qs k ≡ some q → k < length qs
-question_below [] k q e = let z : ◌≡◌ {A = ℕ} 0 1 = cc in absurd (omega arith)
+question_below [] k q e = absurd (cc)
 question_below (x ∷ qs) zero q e = omega arith
 question_below (x ∷ qs) (suc k) q e = let h = question_below qs k q e in omega arith
 
 -- its reply is the byte at k
 pub reply_at : (f : Query → Reply) (rest : List ℕ) (qs : List Query) (k : ℕ) (q : Query)
     → question_in qs k ≡ some q → get_or (map reply_number (map f qs) ++ rest) k 0 ≡ reply_number (f q)
-reply_at f rest [] k q e = let z : ◌≡◌ {A = ℕ} 0 1 = cc in absurd (omega arith)
+reply_at f rest [] k q e = absurd (cc)
 reply_at f rest (x ∷ qs) zero q e = let same : x ≡ q = cc in ap (λ y. reply_number (f y)) same
 reply_at f rest (x ∷ qs) (suc k) q e = reply_at f rest qs k q e
 

@@ -74,7 +74,7 @@ read_item {C} s n c q e go = first (item_at Place.Question s n c) refl
         go x.value (i ∙ ap (λ (y : Field Question). found x.value y.next) same) (ap (λ (y : Field Question). y.value) same)
     first (Err r) i =
         let e' : ◌≡◌ {A = Read Question} (Err r) (Ok q) = rw i at e in
-        let z : ◌≡◌ {A = ℕ} 0 1 = cc in absurd (omega arith)
+        absurd (cc)
 
 -- one question
 module _ {s : List ℕ} {n left : ℕ} {cursor : Cursor} {k : ℕ} {replies : List ℕ} (g : Answers s n left cursor k replies)
@@ -129,7 +129,7 @@ module _ {s : List ℕ} {n left : ℕ} {cursor : Cursor} {k : ℕ} {replies : Li
       first : (x : Read Item) → item_at Place.Question s n cursor ≡ x → ⊥
       first (Ok x) i =
           let e' : found (question_of x.value) x.next ≡ Err r = rw i at e in
-          let z : ◌≡◌ {A = ℕ} 0 1 = cc in omega arith
+          cc
       first (Err r') i = run_reads Place.Question s n cursor g.end left r' more g.readable i
 
 -- behind the last question

@@ -32,7 +32,7 @@ use Rattle.statements.specs.Stated.{label_in, stated_from}
 module _ (test : ℕ → Bool) (ys : List Statement) where
   found_first : (xs : List Statement) (a : ℕ) → first_label xs test ≡ some a → first_label (xs ++ ys) test ≡ some a
   unfolding first_label pick
-  found_first [] a e = let z : ◌≡◌ {A = ℕ} 0 1 = cc in absurd (omega arith)
+  found_first [] a e = absurd (cc)
   found_first (Statement.Ordering i j ∷ xs) a e = found_first xs a e
   found_first (Statement.Compatibility i j ∷ xs) a e = found_first xs a e
   found_first (Statement.Selection i f j ∷ xs) a e = found_first xs a e
@@ -47,7 +47,7 @@ module _ (test : ℕ → Bool) (ys : List Statement) where
   none_first (Statement.Selection i f j ∷ xs) e = none_first xs e
   none_first (Statement.Labelling i b ∷ xs) e =
       decided (test i.0)
-      (λ p. let e' : some b.0 ≡ none = rw p at e in let z : ◌≡◌ {A = ℕ} 0 1 = cc in absurd (omega arith))
+      (λ p. let e' : some b.0 ≡ none = rw p at e in absurd (cc))
       (λ p. rw p (none_first xs (rw p at e)))
 
 -- one record: its label where it states one, and for this variable
