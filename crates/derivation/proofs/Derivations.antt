@@ -4,7 +4,7 @@ use lib.ListN.{length, replicate}
 use mathlib.Core.Bool.{true}
 use mathlib.Core.List.{List, []}
 use mathlib.Core.Logic.{inl, ⊎_elim}
-use mathlib.Core.Path.{◌≡◌, refl, sym, subst, ◌∙◌}
+use mathlib.Core.Path.{◌≡◌, refl, sym, ap, subst, ◌∙◌}
 use native.Mathlib.Nat.{mul-le-mul}
 use native.Mathlib.Omega.{arith}
 use Rattle.fields.specs.Limits.{most_variables}
@@ -18,6 +18,8 @@ use Rattle.rules.proofs.Tables.{fact_column, zeros_shape, zeros_empty}
 use Rattle.table.specs.declared.queue.Entry.{Entry}
 use Rattle.table.specs.Queue.{State, state, Ready}
 use Rattle.table.proofs.Entries.{wider}
+use Rattle.facts.specs.declared.growth.Growth.{Growth}
+use Rattle.facts.specs.Growth.{with_table}
 use Rattle.facts.specs.Additions.{Said, Among, Added, Framed, Steps}
 use Rattle.facts.proofs.Moving.{moves_then, ready_after}
 use Rattle.selections.specs.declared.grouped.Groups.{Groups}
@@ -121,33 +123,41 @@ module _ (n : ℕ) (t₀ t : List ℕ) (queue : List Entry) (square : length t�
             }
 
 -- the same, where each step tells its own number of variables
-module _ {n : ℕ} (t₀ : List ℕ) {t : List ℕ} {queue : List Entry} {pairs : List Pair} {groups : Groups}
-    (square : length t₀ ≡ n * n) (cleared : t ≡ replicate (length t₀) 0) (empty : queue ≡ []) (lawful : Deriving n pairs groups) where
-  pub may_start : {m : ℕ} → m ≡ n → Ready m (state t queue)
-  may_start same =
-      subst (λ z. Ready z (state t queue)) (sym same) (none_ready n t₀ t queue square cleared empty lawful.few)
+module _ (old : Growth) {growth : Growth} {queue : List Entry} {pairs : List Pair} {groups : Groups}
+    (square : length old.cells.now ≡ old.n * old.n)
+    (clear : growth ≡ with_table old (replicate (length old.cells.now) 0)) (empty : queue ≡ [])
+    (lawful : Deriving old.n pairs groups) where
+  cleared : growth.cells.now ≡ replicate (length old.cells.now) 0
+  cleared = ap (λ g. g.cells.now) clear
 
-  module _ {m : ℕ} {s₁ : State} (same : m ≡ n)
-      (added : Added m (Among 0 m (λ i. Said 3 i i)) (state t queue) s₁) where
-    reflexive : Added n (Among 0 n (λ i. Said 3 i i)) (state t queue) s₁
-    reflexive = subst (λ z. Added z (Among 0 z (λ i. Said 3 i i)) (state t queue) s₁) same added
+  size : growth.n ≡ old.n
+  size = ap (λ g. g.n) clear
 
-    pub may_insert : {k : ℕ} → k ≡ n → InsertingPairs k s₁ pairs
-    may_insert same' =
-        subst (λ z. InsertingPairs z s₁ pairs) (sym same')
-        (pairs_next n t₀ t queue square cleared empty reflexive lawful)
+  pub may_start : Ready growth.n (state growth.cells.now queue)
+  may_start =
+      subst (λ z. Ready z (state growth.cells.now queue)) (sym size)
+      (none_ready old.n old.cells.now growth.cells.now queue square cleared empty lawful.few)
 
-    module _ {m' : ℕ} {s₂ : State} (same' : m' ≡ n) (inserted : Steps m' (Paired pairs) s₁ s₂) where
-      steps : Steps n (Paired pairs) s₁ s₂
-      steps = subst (λ z. Steps z (Paired pairs) s₁ s₂) same' inserted
+  module _ {m : ℕ} {s₁ : State} (added : Added growth.n (Among 0 growth.n (λ i. Said 3 i i)) (state growth.cells.now queue) s₁)
+      (same : m ≡ growth.n) where
+    reflexive : Added old.n (Among 0 old.n (λ i. Said 3 i i)) (state growth.cells.now queue) s₁
+    reflexive = subst (λ z. Added z (Among 0 z (λ i. Said 3 i i)) (state growth.cells.now queue) s₁) size added
 
-      pub may_run : {k : ℕ} → k ≡ n → Starting k s₂ groups
-      may_run same'' =
-          subst (λ z. Starting z s₂ groups) (sym same'')
-          (run_next n t₀ t queue square cleared empty reflexive lawful steps)
+    pub may_insert : InsertingPairs m s₁ pairs
+    may_insert =
+        subst (λ z. InsertingPairs z s₁ pairs) (sym (same ∙ size))
+        (pairs_next old.n old.cells.now growth.cells.now queue square cleared empty reflexive lawful)
 
-      pub is_derived : {k : ℕ} {s₃ : State} → k ≡ n → Settled k (Grouped groups) s₂ s₃
-          → DerivedFrom n pairs groups s₃.table
-      is_derived {s₃ = s₃} same'' settled =
-          derived_all n t₀ t queue square cleared empty reflexive lawful steps
-          (subst (λ z. Settled z (Grouped groups) s₂ s₃) same'' settled)
+    module _ {k : ℕ} {s₂ : State} (inserted : Steps m (Paired pairs) s₁ s₂) (same' : k ≡ m) where
+      steps : Steps old.n (Paired pairs) s₁ s₂
+      steps = subst (λ z. Steps z (Paired pairs) s₁ s₂) (same ∙ size) inserted
+
+      pub may_run : Starting k s₂ groups
+      may_run =
+          subst (λ z. Starting z s₂ groups) (sym (same' ∙ (same ∙ size)))
+          (run_next old.n old.cells.now growth.cells.now queue square cleared empty reflexive lawful steps)
+
+      pub is_derived : {s₃ : State} → Settled k (Grouped groups) s₂ s₃ → DerivedFrom old.n pairs groups s₃.table
+      is_derived {s₃ = s₃} settled =
+          derived_all old.n old.cells.now growth.cells.now queue square cleared empty reflexive lawful steps
+          (subst (λ z. Settled z (Grouped groups) s₂ s₃) (same' ∙ (same ∙ size)) settled)
