@@ -1,5 +1,5 @@
 -- Searches and counts among the elements of a list, and among the numbers below n.
-use Prim.Native.Nat.{ℕ, zero, suc, ◌+◌, ◌<◌, ◌≤◌}
+use Prim.Native.Nat.{ℕ, zero, suc, ◌+◌, ◌<◌}
 use lib.ListN.{length, get_or}
 use mathlib.Core.Bool.{Bool, true, false, cond}
 use mathlib.Core.List.{List}
@@ -9,7 +9,7 @@ use Rattle.std.specs.List.{list_any, count_by, sum_by, range_with_len}
 use Rattle.std.proofs.lemmas.List.{get_or_default}
 use Rattle.std.proofs.lemmas.List.Folds.{Any-from_list_any, list_any_at}
 use Rattle.std.proofs.lemmas.List.FromFn.{length-range_with_len, get_or-range_with_len, sum_by-map-range_with_len_more}
-use Rattle.std.proofs.lemmas.List.Sums.{count_by-le-length, sum-map}
+use Rattle.std.proofs.lemmas.List.Sums.{sum-map}
 use Rattle.fields.specs.Tests.{pick}
 use Rattle.rules.specs.Connectives.{◌or◌}
 use Rattle.rules.specs.Stated.{any_below}
@@ -61,9 +61,6 @@ counted test (suc n) =
     ∙ ap (λ k. k + one n) (sum-map one (range_with_len 0 n)) in
     let here = rw last at more in
     omega (arith, here, counted test n, picked (test n))
-
-pub counted_most : (test : ℕ → Bool) (n : ℕ) → count_by test (range_with_len 0 n) ≤ n
-counted_most test n = omega (arith, count_by-le-length test (range_with_len 0 n), length-range_with_len 0 n)
 
 -- the rows below m, each by its count
 pub rows_counted : (m n : ℕ) (r : Relation) (kind : Kind)
