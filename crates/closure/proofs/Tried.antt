@@ -58,7 +58,8 @@ module _ (n : ℕ) (st : List Statement) (q : Statement) (all : AllName n st) (n
   by_pair i j alike differ =
       decided (clashes more n) (λ c. c)
       (λ c.
-      absurd (both_ways _ (not_clashing more n c i j (fact_row n _ Kind.Compatible i j alike) (fact_column n _ Kind.Compatible i j alike))
+      absurd (both_ways _
+      (not_clashing more n c i j (fact_row n _ Kind.Compatible i j alike) (fact_column n _ Kind.Compatible i j alike))
       (both alike (more_differ i j differ))))
 
   pub still_clashes : clashes st n ≡ true → clashes (st ++ (q ∷ [])) n ≡ true

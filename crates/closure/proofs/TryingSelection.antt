@@ -4,6 +4,7 @@ use mathlib.Core.List.{List}
 use mathlib.Core.Logic.{inl, inr, ⊎_elim}
 use mathlib.Core.Path.{◌≡◌}
 use native.Mathlib.Omega.{arith}
+use Rattle.std.proofs.lemmas.Bool.{cases_eq}
 use Rattle.fields.specs.Tests.{same}
 use Rattle.fields.proofs.Choice.{same_true, same_false}
 use Rattle.rules.specs.declared.kinds.Kind.{Kind}
@@ -89,12 +90,10 @@ module _ {n : ℕ} {t : List ℕ} {groups : Groups} {i : ℕ} {child : Child}
                   put_groups trying.trying.spare trying.subject put trying.child trying.trying.lawful;
             };
         pending = λ kind x y p.
-            decided (same x i)
-            (λ a. inl (rw (same_true x i a) (queued.left y (fact_column n t kind x y p))))
+            ⊎_elim (λ a. inl (rw a (queued.left y (fact_column n t kind x y p))))
             (λ a.
-            decided (same y i)
-            (λ b. inl (rw (same_true y i b) (queued.right x (fact_row n t kind x y p))))
-            (λ b. inr (apart kind x y p (same_false x i a) (same_false y i b))));
+            ⊎_elim (λ b. inl (rw b (queued.right x (fact_row n t kind x y p))))
+            (λ b. inr (apart kind x y p a b)) (cases_eq y i)) (cases_eq x i);
       }
 
   selection_tried : {s : State} → Settled n new (state t queue₁) s

@@ -138,8 +138,8 @@ module _ (old : Growth) {growth : Growth} {queue : List Entry} {pairs : List Pai
       subst (λ z. Ready z (state growth.cells.now queue)) (sym size)
       (none_ready old.n old.cells.now growth.cells.now queue square cleared empty lawful.few)
 
-  module _ {m : ℕ} {s₁ : State} (added : Added growth.n (Among 0 growth.n (λ i. Said 3 i i)) (state growth.cells.now queue) s₁)
-      (same : m ≡ growth.n) where
+  module _ {m : ℕ} {s₁ : State}
+      (added : Added growth.n (Among 0 growth.n (λ i. Said 3 i i)) (state growth.cells.now queue) s₁) (same : m ≡ growth.n) where
     reflexive : Added old.n (Among 0 old.n (λ i. Said 3 i i)) (state growth.cells.now queue) s₁
     reflexive = subst (λ z. Added z (Among 0 z (λ i. Said 3 i i)) (state growth.cells.now queue) s₁) size added
 

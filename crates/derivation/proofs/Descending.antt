@@ -2,11 +2,12 @@
 use Prim.Native.Nat.{ℕ, ◌+◌, ◌<◌, ◌≤◌}
 use mathlib.Core.Bool.{true, false}
 use mathlib.Core.List.{List}
+use mathlib.Core.Logic.{⊎_elim}
 use mathlib.Core.Path.{◌≡◌, refl, sym, ap, subst, ◌∙◌}
 use native.Mathlib.Omega.{arith}
 use Rattle.std.specs.Prelude.{Option, Some, None, MatchOption}
 use Rattle.std.specs.Bool.{⊤}
-use Rattle.std.proofs.lemmas.Bool.{both_ways}
+use Rattle.std.proofs.lemmas.Bool.{both_ways, cases_lt}
 use Rattle.fields.specs.Tests.{less, same, pick}
 use Rattle.fields.proofs.Choice.{is_same, same_true, less_true, less_false}
 use Rattle.rules.specs.declared.kinds.Kind.{Kind}
@@ -236,11 +237,10 @@ module _ {n : ℕ} {s : State} {groups : Groups} {w u v : ℕ} (handing : Handin
         → Steps n (HandedDown groups w u v) s s'
     handed_all same passed =
         let none = subst (λ z. NoRowNew z s'.table groups w (start_at groups v) (end_at groups v) k (end_at groups u)) same passed in
-        decided (less k (end_at groups u))
-        (λ p. let h = less_true _ _ p in (handed_pass (end_at groups u) (omega arith) (omega arith) none).steps)
+        ⊎_elim (λ h. (handed_pass (end_at groups u) (omega arith) (omega arith) none).steps)
         (λ p.
-        steps_along (λ x. UnderAll groups w (feature_at groups x) (variable_at groups x) v) handed.along
-        (less_false _ _ p) handed.steps)
+        steps_along (λ x. UnderAll groups w (feature_at groups x) (variable_at groups x) v) handed.along p handed.steps)
+        (cases_lt k (end_at groups u))
 
 -- w is told of i and the children of v at f, up to a place
 pub record ToldUpto (n : ℕ) (groups : Groups) (w f i v : ℕ) (s s' : State) (at : ℕ) : Type 0 where
@@ -287,6 +287,5 @@ module _ {n : ℕ} {s : State} {groups : Groups} {w i v : ℕ} (handing : Handin
         → Steps n (UnderAll groups w f i v) s s'
     told_all same passed =
         let none = subst (λ z. NoneNew z s'.table groups w f i k (end_at groups v)) same passed in
-        decided (less k (end_at groups v))
-        (λ p. let h = less_true _ _ p in (told_pass (end_at groups v) (omega arith) (omega arith) none).steps)
-        (λ p. steps_along (Under groups w f i) so_far.along (less_false _ _ p) so_far.steps)
+        ⊎_elim (λ h. (told_pass (end_at groups v) (omega arith) (omega arith) none).steps)
+        (λ p. steps_along (Under groups w f i) so_far.along p so_far.steps) (cases_lt k (end_at groups v))

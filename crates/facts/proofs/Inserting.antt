@@ -6,9 +6,9 @@ use mathlib.Core.List.{List}
 use mathlib.Core.Logic.{⊎_elim}
 use mathlib.Core.Path.{◌≡◌, refl, sym, ap, subst, ◌∙◌}
 use native.Mathlib.Omega.{arith}
-use Rattle.std.proofs.lemmas.Bool.{both_ways}
+use Rattle.std.proofs.lemmas.Bool.{both_ways, cases_eq}
 use Rattle.fields.specs.Tests.{less, same, pick}
-use Rattle.fields.proofs.Choice.{is_same, same_true, same_false, chosen, passed}
+use Rattle.fields.proofs.Choice.{is_same, same_true, chosen, passed}
 use Rattle.rules.specs.Connectives.{◌and◌, ◌or◌}
 use Rattle.rules.specs.declared.kinds.Kind.{Kind}
 use Rattle.rules.specs.Facts.{Relation, Holds, Within}
@@ -42,11 +42,11 @@ not_ordered e = both_ways _ (sym (ap (λ k. says k 2) e)) says_two
 pub lacking_positive : (cell w : ℕ) → is_lacking cell w ≡ true → 0 < w
 unfolding is_lacking
 lacking_positive cell w e =
-    decided (same w 0)
+    ⊎_elim
     (λ p.
-    let none : bit_or cell w ≡ cell = ap (bit_or cell) (same_true w 0 p) ∙ or_zero_r cell in
+    let none : bit_or cell w ≡ cell = ap (bit_or cell) p ∙ or_zero_r cell in
     absurd (both_ways _ (ap not (is_same _ _ none)) e))
-    (λ p. let other = same_false w 0 p in omega arith)
+    (λ other. omega arith) (cases_eq w 0)
 
 -- a cell that lacks nothing of w says all that w says
 pub has_all : (kind : Kind) (cell w : ℕ) → cell < 4 → w < 4 → is_lacking cell w ≡ false → says kind w ≡ true

@@ -6,14 +6,11 @@ use mathlib.Core.List.{List}
 use mathlib.Core.Logic.{◌⊎◌, inl, inr, ⊎_elim}
 use mathlib.Core.Path.{◌≡◌, refl, ◌∙◌}
 use native.Mathlib.Omega.{arith}
-use Rattle.std.proofs.lemmas.Bool.{both_ways}
-use Rattle.fields.specs.Tests.{less}
-use Rattle.fields.proofs.Choice.{less_true, less_false}
+use Rattle.std.proofs.lemmas.Bool.{both_ways, cases_lt}
 use Rattle.rules.specs.declared.kinds.Kind.{Kind}
 use Rattle.rules.specs.Facts.{Holds, Within}
 use Rattle.rules.specs.Tables.{facts, Shape, count_facts}
 use Rattle.rules.proofs.Counts.{count_most, count_back, count_bound}
-use Rattle.rules.proofs.Logic.{decided}
 use Rattle.table.specs.Queue.{entry_at, Queued, IsEntry, State, fact_count, Ready}
 use Rattle.table.proofs.Entries.{wider, carried}
 use Rattle.facts.specs.Additions.{Moves}
@@ -36,9 +33,8 @@ module _ {n : ℕ} {s s' s'' : State} (first : Moves n s s') (second : Moves n s
 
   entries_both : (k : ℕ) → length s.queue ≤ k → k < length s''.queue → IsEntry n (entry_at s''.queue k)
   entries_both k h g =
-      decided (less k (length s'.queue))
-      (λ p. rw (second.kept k (less_true _ _ p)) (first.entries k h (less_true _ _ p)))
-      (λ p. second.entries k (less_false _ _ p) g)
+      ⊎_elim (λ p. rw (second.kept k p) (first.entries k h p)) (λ p. second.entries k p g)
+      (cases_lt k (length s'.queue))
 
   queued_both : (kind : Kind) (i j : ℕ) → Holds (facts n s''.table) kind i j
       → Holds (facts n s.table) kind i j ⊎ Queued s''.queue (length s.queue) (length s''.queue) i j
@@ -69,9 +65,8 @@ ready_after {n} {s} {s'} ready moves =
       shape = moves.shape;
       room = omega (arith, ready.room, moves.counted);
       entries = λ k h.
-          decided (less k (length s.queue))
-          (λ p. rw (moves.kept k (less_true _ _ p)) (ready.entries k (less_true _ _ p)))
-          (λ p. moves.entries k (less_false _ _ p) h);
+          ⊎_elim (λ p. rw (moves.kept k p) (ready.entries k p)) (λ p. moves.entries k p h)
+          (cases_lt k (length s.queue));
     }
 
 -- a table that gains a fact has more facts
@@ -79,8 +74,8 @@ module _ (n : ℕ) (t t' : List ℕ) (grows : Within (facts n t) (facts n t')) w
   more_of : (kind : Kind) (i j : ℕ) → i < n → j < n → Holds (facts n t') kind i j → facts n t kind i j ≡ false
       → count_facts n (facts n t) kind < count_facts n (facts n t') kind
   more_of kind i j h g p q =
-      decided (less (count_facts n (facts n t) kind) (count_facts n (facts n t') kind)) (λ e. less_true _ _ e)
-      (λ e. absurd (both_ways _ q (count_back n _ _ grows kind (less_false _ _ e) i j h g p)))
+      ⊎_elim (λ e. e) (λ e. absurd (both_ways _ q (count_back n _ _ grows kind e i j h g p)))
+      (cases_lt (count_facts n (facts n t) kind) (count_facts n (facts n t') kind))
 
   pub more_facts : (kind : Kind) (i j : ℕ) → i < n → j < n → Holds (facts n t') kind i j → facts n t kind i j ≡ false
       → fact_count n t < fact_count n t'

@@ -1,11 +1,10 @@
 -- Sets of facts: by cases, and along a loop.
 use Prim.Native.Nat.{ℕ, ◌+◌, ◌≤◌}
+use mathlib.Core.Logic.{⊎_elim}
 use mathlib.Core.Path.{◌≡◌, subst}
 use native.Mathlib.Omega.{arith}
-use Rattle.fields.specs.Tests.{less}
-use Rattle.fields.proofs.Choice.{less_true, less_false}
+use Rattle.std.proofs.lemmas.Bool.{cases_lt}
 use Rattle.rules.specs.declared.kinds.Kind.{Kind}
-use Rattle.rules.proofs.Logic.{decided}
 use Rattle.facts.specs.Additions.{Facts, Either, one, other, Among}
 
 pub either_set : {P Q : Facts} {C : Type 0} {kind : Kind} {i j : ℕ} → (P kind i j → C) → (Q kind i j → C)
@@ -20,12 +19,10 @@ among_none a = omega (arith, a.behind, a.ahead)
 module _ (P : ℕ → Facts) {from k : ℕ} {kind : Kind} {i j : ℕ} where
   pub among_to : Among from (k + 1) P kind i j → Either (Among from k P) (P k) kind i j
   among_to a =
-      decided (less a.at k)
-      (λ p. one (record { at = a.at; behind = a.behind; ahead = less_true _ _ p; holds = a.holds }))
+      ⊎_elim (λ p. one (record { at = a.at; behind = a.behind; ahead = p; holds = a.holds }))
       (λ p.
-      let past = less_false _ _ p in
       let e : a.at ≡ k = omega (arith, a.ahead) in
-      other (subst (λ x. P x kind i j) e a.holds))
+      other (subst (λ x. P x kind i j) e a.holds)) (cases_lt a.at k)
 
   pub among_from : from ≤ k → Either (Among from k P) (P k) kind i j → Among from (k + 1) P kind i j
   among_from h (one a) =

@@ -1,12 +1,11 @@
 -- Laws of `Steps`: nothing new, one set after another, and sets along a loop.
 use Prim.Native.Nat.{ℕ, ◌+◌, ◌<◌, ◌≤◌}
+use mathlib.Core.Logic.{⊎_elim}
 use native.Mathlib.Omega.{arith}
-use Rattle.fields.specs.Tests.{less}
-use Rattle.fields.proofs.Choice.{less_true, less_false}
+use Rattle.std.proofs.lemmas.Bool.{cases_lt}
 use Rattle.rules.specs.declared.kinds.Kind.{Kind}
 use Rattle.rules.specs.Facts.{Holds}
 use Rattle.rules.specs.Tables.{facts, Shape}
-use Rattle.rules.proofs.Logic.{decided}
 use Rattle.table.specs.Queue.{State}
 use Rattle.facts.specs.Additions.{Facts, Either, one, other, Among, Framed, Steps}
 use Rattle.facts.proofs.Sets.{either_set, among_none, among_to, among_from, among_upto}
@@ -95,7 +94,7 @@ along_pass {from} {at} next along h inside =
     record {
       behind = omega (arith, along.behind);
       inside = λ k a b.
-          decided (less k at) (λ p. along.inside k a (less_true k at p)) (λ p. inside k (less_false k at p) b);
+          ⊎_elim (along.inside k a) (λ p. inside k p b) (cases_lt k at);
     }
 
 pub steps_pass : {n : ℕ} (P : ℕ → Facts) {from at : ℕ} (next : ℕ) {s s' : State} → at ≤ next
@@ -106,10 +105,8 @@ steps_pass P {from} {at} next h there steps =
       moves = steps.moves;
       framed = steps.framed;
       given = λ kind i j p.
-          decided (less p.at at)
-          (λ e.
-          steps.given kind i j
-          (record { at = p.at; behind = p.behind; ahead = less_true _ _ e; holds = p.holds }))
-          (λ e. there p.at (less_false _ _ e) p.ahead kind i j p.holds);
+          ⊎_elim
+          (λ e. steps.given kind i j (record { at = p.at; behind = p.behind; ahead = e; holds = p.holds }))
+          (λ e. there p.at e p.ahead kind i j p.holds) (cases_lt p.at at);
       within = λ r closed old new. steps.within r closed old (λ kind i j p. new kind i j (among_upto P h p));
     }

@@ -6,9 +6,10 @@ use lib.Seq.{get_or-set_same, get_or-set_other}
 use mathlib.Core.Bool.{Bool, true, false, not, true≢false, false≢true}
 use mathlib.Core.List.Memᴰ
 use mathlib.Core.List.{List, [], ◌∷◌, ◌++◌}
+use mathlib.Core.Logic.{⊎_elim}
 use mathlib.Core.Path.{◌≡◌, refl, sym, ap, subst, ◌∙◌}
 use native.Mathlib.Omega.{arith}
-use Rattle.std.proofs.lemmas.Bool.{false_from_ne_true}
+use Rattle.std.proofs.lemmas.Bool.{false_from_ne_true, cases_eq}
 use Rattle.fields.specs.Fields.{label}
 use Rattle.fields.specs.Limits.{most_variables}
 use Rattle.fields.specs.Tests.{same, pick}
@@ -51,12 +52,12 @@ pub other_told : {st : List Statement} {j : ℕ} {s : Spread} → LabelsAt st j 
 other_told {st} {j} (LabelsAt.none none) a = sym (false_from_ne_true _ λ p. other_of st j a p λ b s d. none b s)
 other_told {st} {j} (LabelsAt.one {a = b} one) a =
     decided (same b.0 a)
-    (λ p. rw p (sym (false_from_ne_true _ λ q. other_of st j a q λ c s d. d (sym (same_true _ _ p) ∙ sym (one.only c s)))))
+    (λ p. rw p (sym (false_from_ne_true _ λ q.
+    other_of st j a q λ c s d. d (sym (same_true _ _ p) ∙ sym (one.only c s)))))
     (λ p. rw p (sym (other_by one.stated (λ q. same_false _ _ p (sym q)))))
 other_told {st} {j} (LabelsAt.several two) a =
-    decided (same a two.first)
-    (λ p. sym (other_by two.second_stated λ q. two.differs (sym (same_true _ _ p) ∙ q)))
-    (λ p. sym (other_by two.first_stated (same_false _ _ p)))
+    ⊎_elim (λ p. sym (other_by two.second_stated λ q. two.differs (sym p ∙ q)))
+    (λ p. sym (other_by two.first_stated p)) (cases_eq a two.first)
 
 -- and whether a is, where it is the only one
 pub only_stated : {st : List Statement} {j a : ℕ} {s : Spread} → LabelsAt st j s → is_only s a ≡ true
@@ -192,12 +193,12 @@ module _ {n : ℕ} {st : List Statement} {spreads : List Spread} (stand : Labels
       record {
         size = length-set spreads i more ∙ size;
         at = λ x h.
-            decided (same x i)
-            (λ p. let e = same_true x i p in
+            ⊎_elim
+            (λ e.
             rw (e, get_or-set_same spreads i more Spread.Nothing (omega arith)) (noted_at a (stand.at i (rw (← e) h))))
-            (λ p. let d = same_false x i p in
+            (λ d.
             rw (get_or-set_other spreads i x more Spread.Nothing d)
-            (kept_at _ (stand.at x h) λ b q. absurd (d (ap subject_of q))));
+            (kept_at _ (stand.at x h) λ b q. absurd (d (ap subject_of q)))) (cases_eq x i);
       }
 
 -- what is told by the spreads of the variables

@@ -63,6 +63,7 @@ pub none_before : {b facts₀ work₀ replies₀ facts' replies' : List ℕ} {r 
     → Means b facts₀ work₀ replies₀ facts' replies' r → kind_in r ≡ 1
     → (i j : ℕ) → (i < first_in r) ⊎ ((i ≡ first_in r) × (j < second_in r)) → j < (sheet_of b).n
     → clashes_at (sheet_of b).stated (facts_of (sheet_of b).stated (sheet_of b).n) i j ≡ true → ⊥
-none_before means kind i j (inl above) column applies = both_ways _ ((means.least kind).least_row i j above column) applies
+none_before means kind i j (inl above) column applies =
+    both_ways _ ((means.least kind).least_row i j above column) applies
 none_before means kind i j (inr (same, before)) column applies =
     both_ways _ (rw same ((means.least kind).least_column j before)) applies

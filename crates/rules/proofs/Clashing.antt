@@ -2,7 +2,7 @@
 use Prim.Native.Nat.{ℕ, zero, suc, ◌+◌, ◌<◌, ◌≤◌}
 use mathlib.Core.Bool.{true, false, not, true≢false, false≢true}
 use mathlib.Core.List.{List}
-use mathlib.Core.Logic.{◌↔◌}
+use mathlib.Core.Logic.{◌↔◌, ⊎_elim}
 use mathlib.Core.Path.{◌≡◌, refl, sym, ap, ap₂, subst}
 use borrow.Author.Count.{below_more}
 use borrow.Author.Tests.{not-true}
@@ -10,9 +10,9 @@ use native.Mathlib.Numerals.{add-one}
 use native.Mathlib.Omega.{arith}
 use Rattle.std.specs.Option.{option_or}
 use Rattle.std.specs.Prelude.{Option, None, Some, is_some}
-use Rattle.std.proofs.lemmas.Bool.{both_ways}
-use Rattle.fields.specs.Tests.{less, same, pick}
-use Rattle.fields.proofs.Choice.{is_same, not_same, same_true, same_false, less_true, less_false}
+use Rattle.std.proofs.lemmas.Bool.{both_ways, cases_lt}
+use Rattle.fields.specs.Tests.{same, pick}
+use Rattle.fields.proofs.Choice.{is_same, not_same, same_true, same_false}
 use Rattle.items.specs.declared.items.Statement.{Statement}
 use Rattle.rules.specs.declared.clashes.Clash.{Clash}
 use Rattle.rules.specs.Stated.{labelling, Stated}
@@ -65,7 +65,8 @@ module _ (n : ℕ) (st : List Statement) (r : Relation) where
         least_row = λ x y b g. above x b y g;
         least_column = before;
       }))
-      (λ p. rw p (row_told i h above left (suc j) (omega arith) (rw (add-one j) at (below_more (λ y. clashes_at st r i y ≡ false) j before p))))
+      (λ p. rw p (row_told i h above left (suc j) (omega arith)
+      (rw (add-one j) at (below_more (λ y. clashes_at st r i y ≡ false) j before p))))
 
   or_later : (i : ℕ) (c later : Option Clash) → Told n st r (Clear n st r i) c
       → (Clear n st r i → Told n st r (NoClash st r n) later) → Told n st r (NoClash st r n) (option_or c later)
@@ -87,11 +88,11 @@ module _ (n : ℕ) (st : List Statement) (r : Relation) where
   -- no clash is before the least, so there is one least
   row_first : (i j x y : ℕ) → LeastClash st r n i j → y < n → clashes_at st r x y ≡ true → i ≤ x
   row_first i j x y a g p =
-      decided (less x i) (λ e. absurd (both_ways _ (a.least_row x y (less_true x i e) g) p)) (less_false x i)
+      ⊎_elim (λ b. absurd (both_ways _ (a.least_row x y b g) p)) (λ e. e) (cases_lt x i)
 
   column_first : (i j y : ℕ) → LeastClash st r n i j → clashes_at st r i y ≡ true → j ≤ y
   column_first i j y a p =
-      decided (less y j) (λ e. absurd (both_ways _ (a.least_column y (less_true y j e)) p)) (less_false y j)
+      ⊎_elim (λ b. absurd (both_ways _ (a.least_column y b) p)) (λ e. e) (cases_lt y j)
 
   one_least : (i j x y : ℕ) → LeastClash st r n i j → LeastClash st r n x y → (i ≡ x) × (j ≡ y)
   one_least i j x y a b =

@@ -1,17 +1,17 @@
 -- Rounds, one after the other: they stay within every closed set, and settle at a table that is closed.
 use Prim.Native.Nat.{ℕ, zero, suc, ◌+◌, ◌*◌, ◌<◌, ◌≤◌}
 use mathlib.Core.List.{List}
+use mathlib.Core.Logic.{⊎_elim}
 use mathlib.Core.Path.{◌≡◌, refl, sym, ap, ◌∙◌}
 use native.Mathlib.Omega.{arith}
-use Rattle.fields.specs.Tests.{less}
-use Rattle.fields.proofs.Choice.{less_true, less_false}
+use Rattle.std.proofs.lemmas.Bool.{cases_lt}
 use Rattle.items.specs.declared.items.Statement.{Statement}
 use Rattle.items.specs.Statements.{AllName}
 use Rattle.rules.specs.declared.kinds.Kind.{Kind}
 use Rattle.rules.specs.Facts.{Holds, Into, Within, Closed}
 use Rattle.rules.specs.Tables.{facts, Shape, count_facts}
 use Rattle.rules.specs.Derived.{round, next_table, rounds}
-use Rattle.rules.proofs.Logic.{decided, same_tests}
+use Rattle.rules.proofs.Logic.{same_tests}
 use Rattle.rules.proofs.Lists.{named, named_fact}
 use Rattle.rules.proofs.Tables.{fact_row, fact_column, table_shape, table_facts, same_facts}
 use Rattle.rules.proofs.Counts.{count_most, count_back, count_bound}
@@ -74,11 +74,10 @@ module _ (st : List Statement) (n : ℕ) where
         count_bound n (facts n (next_table st n t)) Kind.Compatible,
       ))
   settles (suc m) t shape b =
-      decided (less (size_of n t) (size_of n (next_table st n t)))
-      (λ e. let more = less_true _ _ e in settles m (next_table st n t) (table_shape n _) (omega arith))
+      ⊎_elim (λ more. settles m (next_table st n t) (table_shape n _) (omega arith))
       (λ e.
-      let still = ap (next_table st n) (settled t shape (less_false _ _ e)) in
-      rw (stays m (next_table st n t) still) still)
+      let still = ap (next_table st n) (settled t shape e) in
+      rw (stays m (next_table st n t) still) still) (cases_lt (size_of n t) (size_of n (next_table st n t)))
 
 -- a table that a round leaves as it is is closed
 module _ (n : ℕ) (st : List Statement) (t : List ℕ) (names : AllName n st) (still : next_table st n t ≡ t) where

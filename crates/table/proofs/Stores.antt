@@ -25,7 +25,8 @@ module _ (n : ℕ) (t : List ℕ) (x y cell : ℕ) (shape : Shape n t) (h : x < 
   -- by cases: there or elsewhere
   pub there_or : {C : Type 0} (i j : ℕ) → (i ≡ x → j ≡ y → C) → ((i ≡ x → j ≡ y → ⊥) → C) → C
   there_or i j there elsewhere =
-      ⊎_elim (λ p. ⊎_elim (there p) (λ q. elsewhere (λ a. q)) (cases_eq j y)) (λ p. elsewhere (λ a b. p a)) (cases_eq i x)
+      ⊎_elim (λ p. ⊎_elim (there p) (λ q. elsewhere (λ a. q)) (cases_eq j y)) (λ p. elsewhere (λ a b. p a))
+      (cases_eq i x)
 
   pub store_shape : cell < 4 → Shape n (with_cell n t x y cell)
   unfolding with_cell

@@ -2,11 +2,11 @@
 use Prim.Native.Nat.{ℕ, ◌<◌}
 use mathlib.Core.Bool.{true, false}
 use mathlib.Core.List.{List}
-use mathlib.Core.Logic.{inl, inr}
+use mathlib.Core.Logic.{inl, inr, ⊎_elim}
 use mathlib.Core.Path.{◌≡◌, refl, sym, subst}
-use Rattle.std.proofs.lemmas.Bool.{both_ways}
+use Rattle.std.proofs.lemmas.Bool.{both_ways, cases_eq}
 use Rattle.fields.specs.Tests.{same}
-use Rattle.fields.proofs.Choice.{is_same, same_true, same_false}
+use Rattle.fields.proofs.Choice.{is_same, same_true}
 use Rattle.items.specs.declared.items.Statement.{Statement}
 use Rattle.items.specs.Statements.{Names, AllName}
 use Rattle.rules.specs.Connectives.{◌or◌}
@@ -16,7 +16,7 @@ use Rattle.rules.specs.Stated.{selection, labelling, Stated}
 use Rattle.rules.specs.Derived.{derived, facts_of}
 use Rattle.rules.specs.Clashes.{clashes_at, clashes}
 use Rattle.rules.specs.Support.{supported}
-use Rattle.rules.proofs.Logic.{both, either_first, either_second, either_of, decided}
+use Rattle.rules.proofs.Logic.{both, either_first, either_second, either_of}
 use Rattle.rules.proofs.Lists.{named}
 use Rattle.rules.proofs.Supported.{under_by, over_by, label_by, Carries, carried}
 use Rattle.rules.proofs.Tables.{fact_row, fact_column}
@@ -84,8 +84,8 @@ module _ (n : ℕ) (st : List Statement) (fit : AllName n st) where
   labels_agree e i j a b p s s' =
       let h = named n st fit s in
       let clear = not_clashing st n e i j h (named n st fit s') in
-      decided (same a b) (same_true a b)
-      (λ d. absurd (both_ways _ clear (both (to_fact Kind.Compatible i j h p) (differ_by s s' (same_false a b d)))))
+      ⊎_elim (λ e. e) (λ d. absurd (both_ways _ clear (both (to_fact Kind.Compatible i j h p) (differ_by s s' d))))
+      (cases_eq a b)
 
   related_closed : Closed n st (Holds related)
   related_closed =

@@ -44,7 +44,8 @@ module _ {n : ℕ} {st : List Statement} {r : Relation} (L : Laws n st r) where
       absurd (both_ways _ d (subst (λ w. Holds r Kind.Compatible w y) (omega arith) (as_compatible kind p)))
   marked_descends kind g x x' y y' (against z h h' d e c) p (old s') = absurd (not_unused z s' e)
   marked_descends kind g x x' y y' (against z h h' d e c) p (own h'' e' c') =
-      absurd (both_ways _ d (subst (λ w. Holds r Kind.Compatible w x) (omega arith) (symmetric L (as_compatible kind p))))
+      absurd (both_ways _ d
+      (subst (λ w. Holds r Kind.Compatible w x) (omega arith) (symmetric L (as_compatible kind p))))
   marked_descends kind g x x' y y' (against z h h' d e c) p (against z' h'' h''' d' e' c') =
       rw (c, c') (L.self kind (suc n))
 

@@ -19,4 +19,7 @@ returns c =
     (YieldsList-from_filter _ test (YieldsList-from_range 0 t.n t.n (cc) (omega arith)) c.filter.ensures.closure
     (λ x b q k. search (rules, tests)))
     ∙ length-filter test (range_with_len 0 t.n) in
-    record { count = e ∙ counted test t.n; most = omega (arith, e, count_by-le-length test (range_with_len 0 t.n), length-range_with_len 0 t.n) }
+    record {
+      count = e ∙ counted test t.n;
+      most = omega (arith, e, count_by-le-length test (range_with_len 0 t.n), length-range_with_len 0 t.n);
+    }
