@@ -8,8 +8,8 @@ use native.Mathlib.Omega.{arith}
 use Rattle.std.specs.Prelude.{Option, Some, None, MatchOption}
 use Rattle.std.specs.Bool.{⊤}
 use Rattle.std.proofs.lemmas.Bool.{both_ways, cases_lt}
-use Rattle.fields.specs.Tests.{less, same, pick}
-use Rattle.fields.proofs.Choice.{is_same, same_true, less_true, less_false}
+use Rattle.fields.specs.Tests.{same, pick}
+use Rattle.fields.proofs.Choice.{is_same, same_true}
 use Rattle.rules.specs.declared.kinds.Kind.{Kind}
 use Rattle.rules.specs.Facts.{Holds}
 use Rattle.rules.specs.Tables.{says, cell_at, facts, Shape}

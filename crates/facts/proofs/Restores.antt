@@ -10,7 +10,7 @@ use Rattle.rules.specs.Facts.{Holds}
 use Rattle.rules.specs.Tables.{says, cell_at, facts}
 use Rattle.rules.proofs.Logic.{same_tests}
 use Rattle.rules.proofs.Tables.{fact_row, fact_column, fact_said, same_facts}
-use Rattle.table.specs.Cells.{Cell, with_cell}
+use Rattle.table.specs.Cells.{with_cell}
 use Rattle.table.specs.declared.queue.Entry.{Entry}
 use Rattle.table.specs.Queue.{entry_at, Queued, State, state}
 use Rattle.table.proofs.Entries.{first_or_later, entries_from, none_left, is_left, entry_left}
@@ -100,9 +100,6 @@ module _ {n : ℕ} {other : List ℕ} {s : State} {from : ℕ} (restoring : Rest
 
 -- the same, where the entries from a place on are read one after another
 module _ {n : ℕ} {other t : List ℕ} {queue items : List Entry} (from : ℕ) (read : items ≡ queue) where
-  pub restore_start : Restoring n other (state t queue) from → Restoring n other (state t queue) (from + 0)
-  restore_start restoring = subst (λ k. Restoring n other (state t queue) k) (omega arith) restoring
-
   module _ {k : ℕ} (restoring : Restoring n other (state t queue) (from + k)) where
     pub restore_end : length (entries_from from items) ≤ k → t ≡ other
     restore_end h = restored restoring (none_left from k read h)
@@ -111,16 +108,6 @@ module _ {n : ℕ} {other t : List ℕ} {queue items : List Entry} (from : ℕ) 
     module _ (h : k < length (entries_from from items)) {x y : ℕ}
         (first : x ≡ (entry_at (entries_from from items) k).first.0)
         (second : y ≡ (entry_at (entries_from from items) k).second.0) where
-      pub restore_cell : Cell n t x y
-      restore_cell =
-          let pair = restoring.entries (from + k) (is_left from k read h) in
-          record {
-            few = restoring.few;
-            size = restoring.grown.size;
-            row = rw (first, entry_left from k read h) pair.first;
-            column = rw (second, entry_left from k read h) pair.second;
-          }
-
       pub restore_more : {m : ℕ} {t' : List ℕ} {cell : ℕ} → m ≡ n → cell ≡ cell_at m other x y
           → t' ≡ with_cell n t x y cell → Restoring n other (state t' queue) (from + (k + 1))
       restore_more {t' = t'} same looked stored =
