@@ -1,9 +1,10 @@
 -- How orderings and compatibilities of statements stand in a list of pairs, one statement after another.
 use Prim.Native.Nat.{ℕ, ◌+◌, ◌<◌}
-use lib.ListN.{length, length-append}
+use lib.ListN.{length, length-append, get_or-append}
 use mathlib.Core.List.Memᴰ
 use mathlib.Core.List.{List, [], ◌∷◌, ◌++◌}
 use mathlib.Core.Logic.{⊎_elim}
+use lib.Seq.{get_or-append-add}
 use mathlib.Core.Path.{◌≡◌, refl, subst}
 use native.Mathlib.Omega.{arith}
 use Rattle.std.proofs.lemmas.List.{get_or_push}
@@ -19,7 +20,7 @@ use Rattle.rules.specs.Tables.{says, kind_cell}
 use Rattle.rules.proofs.More.{still, stated_of}
 use Rattle.facts.specs.Additions.{Facts, Said, Among}
 use Rattle.facts.proofs.Sets.{among_none}
-use Rattle.selections.proofs.Appended.{entries_of, below_both, at_single, at_first, at_second, at_either}
+use Rattle.selections.proofs.Appended.{entries_of, below_both, at_either}
 use Rattle.selections.proofs.Stands.{selection_in}
 use Rattle.derivation.specs.declared.pairs.Pair.{Pair}
 use Rattle.derivation.specs.Stands.{pair_of, no_pair, Pairs, SaidBy, Paired, PairsStand}
@@ -61,10 +62,10 @@ module _ {pairs pairs' : List Pair} where
         listed = λ kind i j m.
             ⊎_elim
             (λ s. let a = stand.listed kind i j s in let h = a.ahead in
-            among_at a.at (omega arith) (at_first (Says kind i j) no_pair pairs pairs' a.at h a.holds))
+            among_at a.at (omega arith) (rw (get_or-append pairs pairs' no_pair a.at h) a.holds))
             (λ s. let a = stand'.listed kind i j s in let h = a.ahead in
             among_at (length pairs + a.at) (omega arith)
-            (at_second (Says kind i j) no_pair pairs pairs' a.at a.holds))
+            (rw (get_or-append-add pairs pairs' a.at no_pair) a.holds))
             (Memᴰ.append_cases st m);
         stated = λ kind i j a.
             at_either (Says kind i j) no_pair pairs pairs' a.at a.ahead a.holds
@@ -102,7 +103,7 @@ module _ {w x y : ℕ} {kind : Kind} {i j : ℕ} where
   said_paired p = among_at 0 (omega arith) p
 
   pub said_of : Paired (pair_of w x y ∷ []) kind i j → Said w x y kind i j
-  said_of a = at_single (Says kind i j) no_pair (pair_of w x y) a.at a.ahead a.holds
+  said_of a = rw (get_or_push [] (pair_of w x y) no_pair a.at (omega (arith, a.ahead))) at a.holds
 
 -- one statement: its entry, if any, is lawful and says its fact
 statement_lawful : (n : ℕ) (q : Statement) → Names n q → Pairs n (pair_in q)

@@ -4,7 +4,7 @@ use mathlib.Core.List.{List}
 use mathlib.Core.Path.{◌≡◌, refl, sym, ap, ap₂, ◌∙◌}
 use lib.ListN.{length, get_or, replicate, length-append, length-replicate, get_or-replicate, get_or-append}
 use lib.Seq.{get_or-append-add, ext_get_or}
-use native.Mathlib.Nat.{suc-mul, zero-mul, div-add-mod', mod-lt, div-lt_iff_lt-mul}
+use native.Mathlib.Nat.{suc-mul, zero-mul, div-add-mod', mod-lt, div-lt_iff_lt-mul, lt_of_mul-lt-mul_right}
 use native.Mathlib.Omega.{arith}
 use Rattle.std.proofs.lemmas.Bool.{both_ways}
 use Rattle.std.proofs.lemmas.Nat.{mul-add-lt}
@@ -86,11 +86,6 @@ module _ (n : ℕ) (r : Relation) where
   table_facts kind i j h g =
       fact_said n (table_of n r) kind i j h g ∙ ap (says kind) (table_cell i j h g) ∙ said (λ k. r k i j) kind
 
--- where there is a cell there is a variable
-positive : (n k : ℕ) → k < n * n → 0 < n
-positive zero k h = absurd (omega arith)
-positive (suc n) k h = omega arith
-
 -- the table of zeros has the shape, and no fact
 module _ (n : ℕ) where
   zero_cell : (i j : ℕ) → i < n → j < n → cell_at n (replicate (n * n) 0) i j ≡ 0
@@ -118,7 +113,7 @@ module _ (n : ℕ) (t u : List ℕ) (shape_t : Shape n t) (shape_u : Shape n u)
   unfolding cell_at
   same_facts = ext_get_or 0 t u (shape_t.size ∙ sym shape_u.size) λ k h.
       let b : k < n * n = omega (arith, shape_t.size) in
-      let some = positive n k b in
+      let some : 0 < n = lt_of_mul-lt-mul_right n (omega (arith, zero-mul n)) in
       rw (← div-add-mod' k n) (same_at (k / n) (k % n) ((div-lt_iff_lt-mul some).1 b) (mod-lt k some))
 
 -- how long the table of any facts is

@@ -7,7 +7,6 @@ use mathlib.Core.Logic.{⊎_elim}
 use mathlib.Core.Path.{◌≡◌}
 use native.Mathlib.Omega.{arith}
 use Rattle.std.proofs.lemmas.Bool.{cases_lt}
-use Rattle.std.proofs.lemmas.List.{get_or_push}
 use Rattle.items.specs.declared.items.Statement.{Statement}
 
 -- a list made of the entries of each statement
@@ -30,21 +29,11 @@ below_both number d xs ys first second k h =
     place_in xs ys k h (λ l. rw (get_or-append xs ys d k l) (first k l))
     (λ m l q. rw (q, get_or-append-add xs ys m d) (second m l))
 
--- the entry at one place has a property
-module _ {A : Type 0} (P : A → Type 0) (d : A) where
-  pub at_single : (x : A) (k : ℕ) → k < 1 → P (get_or (x ∷ []) k d) → P x
-  at_single x k h p = rw (get_or_push [] x d k (omega arith)) at p
-
-  module _ (xs ys : List A) where
-    pub at_first : (k : ℕ) → k < length xs → P (get_or xs k d) → P (get_or (xs ++ ys) k d)
-    at_first k h p = rw (get_or-append xs ys d k h) p
-
-    pub at_second : (m : ℕ) → P (get_or ys m d) → P (get_or (xs ++ ys) (length xs + m) d)
-    at_second m p = rw (get_or-append-add xs ys m d) p
-
-    pub at_either : {C : Type 0} (k : ℕ) → k < length (xs ++ ys) → P (get_or (xs ++ ys) k d)
-        → ((m : ℕ) → m < length xs → P (get_or xs m d) → C) → ((m : ℕ) → m < length ys → P (get_or ys m d) → C) → C
-    at_either k h p first second =
-        place_in xs ys k h
-        (λ l. first k l (rw (get_or-append xs ys d k l) at p))
-        (λ m l q. second m l (rw (q, get_or-append-add xs ys m d) at p))
+-- an entry of two lists that has a property is one of the first or one of the second
+pub at_either : {A : Type 0} (P : A → Type 0) (d : A) (xs ys : List A) {C : Type 0} (k : ℕ) → k < length (xs ++ ys)
+    → P (get_or (xs ++ ys) k d) → ((m : ℕ) → m < length xs → P (get_or xs m d) → C)
+    → ((m : ℕ) → m < length ys → P (get_or ys m d) → C) → C
+at_either P d xs ys k h p first second =
+    place_in xs ys k h
+    (λ l. first k l (rw (get_or-append xs ys d k l) at p))
+    (λ m l q. second m l (rw (q, get_or-append-add xs ys m d) at p))

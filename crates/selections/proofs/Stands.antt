@@ -1,9 +1,10 @@
 -- How selections of statements stand in a list, one statement after another.
 use Prim.Native.Nat.{ℕ, ◌+◌, ◌<◌, ◌≤◌}
-use lib.ListN.{length, length-append}
+use lib.ListN.{length, length-append, get_or-append}
 use mathlib.Core.List.Memᴰ
 use mathlib.Core.List.{List, [], ◌∷◌, ◌++◌}
 use mathlib.Core.Logic.{◌⊎◌, inl, inr, ⊎_elim}
+use lib.Seq.{get_or-append-add}
 use mathlib.Core.Path.{◌≡◌, refl, subst}
 use native.Mathlib.Omega.{arith}
 use Rattle.std.proofs.lemmas.List.{get_or_push}
@@ -14,7 +15,7 @@ use Rattle.rules.specs.Stated.{selection}
 use Rattle.selections.specs.declared.listed.Selection.{Selection}
 use Rattle.selections.specs.Listed.{selection_of, selection_at, Selections, Listed}
 use Rattle.selections.specs.Stands.{Selected, SelectionsStand}
-use Rattle.selections.proofs.Appended.{entries_of, below_both, at_single, at_first, at_second, at_either}
+use Rattle.selections.proofs.Appended.{entries_of, below_both, at_either}
 
 -- what a statement adds to the list: an entry where it is a selection
 abbrev pub selection_in : Statement → List Selection
@@ -73,10 +74,10 @@ module _ {n : ℕ} {list list' : List Selection} where
       let size = length-append list list' in
       both_selected stand stand'
       (λ i f j l. let h = l.in_list in
-      listed_at l.at (omega arith) (at_first (Is i f j) (selection_of 0 0 0) list list' l.at h (is_at l)))
+      listed_at l.at (omega arith) (rw (get_or-append list list' (selection_of 0 0 0) l.at h) (is_at l)))
       (λ i f j l. let h = l.in_list in
       listed_at (length list + l.at) (omega arith)
-      (at_second (Is i f j) (selection_of 0 0 0) list list' l.at (is_at l)))
+      (rw (get_or-append-add list list' l.at (selection_of 0 0 0)) (is_at l)))
       (λ i f j l.
       at_either (Is i f j) (selection_of 0 0 0) list list' l.at l.in_list (is_at l)
       (λ m h p. inl (listed_at m h p)) (λ m h p. inr (listed_at m h p)))
@@ -119,7 +120,7 @@ one_listed i f j = listed_at 0 (omega arith) (refl, refl, refl)
 
 pub only_listed : {i f j x g y : ℕ} → ListedIn (selection i f j) x g y → (i ≡ x) × (f ≡ g) × (j ≡ y)
 only_listed {i} {f} {j} {x} {g} {y} l =
-    at_single (Is x g y) (selection_of 0 0 0) (selection_of i f j) l.at l.in_list (is_at l)
+    rw (get_or_push [] (selection_of i f j) (selection_of 0 0 0) l.at (omega (arith, l.in_list))) at (is_at l)
 
 is_stated_lem : (q : Statement) (i f j : ℕ) → ListedIn q i f j → selection i f j ≡ q
 is_stated_lem (Statement.Ordering x y) i f j l = absurd (omega (arith, l.in_list))
