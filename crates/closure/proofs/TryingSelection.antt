@@ -5,12 +5,9 @@ use mathlib.Core.Logic.{inl, inr, ⊎_elim}
 use mathlib.Core.Path.{◌≡◌}
 use native.Mathlib.Omega.{arith}
 use Rattle.std.proofs.lemmas.Bool.{cases_eq}
-use Rattle.fields.specs.Tests.{same}
-use Rattle.fields.proofs.Choice.{same_true, same_false}
 use Rattle.rules.specs.declared.kinds.Kind.{Kind}
 use Rattle.rules.specs.Facts.{Holds}
 use Rattle.rules.specs.Tables.{facts}
-use Rattle.rules.proofs.Logic.{decided}
 use Rattle.rules.proofs.Tables.{fact_row, fact_column}
 use Rattle.table.specs.declared.queue.Entry.{Entry}
 use Rattle.table.specs.Queue.{State, state, Ready}

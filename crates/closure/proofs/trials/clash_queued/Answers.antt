@@ -1,6 +1,5 @@
 -- One entry after another is asked.
-use Rattle.std.proofs.Common.{rules, tests, arith, ap}
-use lib.ListN.{length}
+use Rattle.std.proofs.Common.{rules, tests}
 use Rattle.std.proofs.lemmas.Iterator.{YieldsList-from_slice}
 use Rattle.std.proofs.lemmas.Iterator.Adapters.{serves_from_places}
 use Rattle.std.proofs.lemmas.Iterator.Search.{any_from_yields_List}
@@ -8,9 +7,6 @@ use Rattle.table.proofs.Entries.{entries_from}
 use Rattle.closure.specs.Trials.{entry_clashes}
 use Rattle.closure.proofs.Searches.{may_search, searched}
 use Rattle.closure.proofs.trials.clash_queued.Goals as goal
-
-pub slice_bounds-iter-start : goal.slice_bounds-iter-start
-slice_bounds-iter-start c = omega (arith, c.requires.begin, ap length c.deref.ensures.0)
 
 pub any-requires-clause-callable : goal.any-requires-clause-callable
 any-requires-clause-callable c =
