@@ -4,7 +4,8 @@ use Rattle.std.proofs.lemmas.Iterator.{YieldsList-from_slice}
 use Rattle.std.proofs.lemmas.Iterator.Adapters.{serves_from_places}
 use Rattle.std.proofs.lemmas.Iterator.Search.{any_from_yields_List}
 use Rattle.rules.specs.Tables.{facts}
-use Rattle.answers.specs.Supports.{is_under, is_over}
+use Rattle.selections.specs.declared.listed.Selection.{Selection}
+use Rattle.answers.specs.Supports.{is_under}
 use Rattle.answers.proofs.Shown.{lawful_at, by_ordering, by_compatibility, by_both, by_none_under, by_label}
 use Rattle.answers.proofs.support.supports.Goals as goal
 
@@ -32,23 +33,24 @@ pub returns-then-any : goal.returns-then-any
 returns-then-any c =
     let list = c.args.list.now in
     let r = facts c.args.table.now.n c.args.table.now.cells.now in
-    let under = is_under r c.in-Selection.subject.0 c.in-Selection.feature.0 c.in-Selection.child.0 in
-    let over = is_over r c.in-Selection.subject.0 c.in-Selection.feature.0 c.in-Selection.child.0 in
-    by_both c.requires.selections c.in-Selection.is
-    (sym (any_from_yields_List under _ _ c.any.result c.any.ensures.ran (YieldsList-from_slice list (cc))
-    (λ x b q k. search (rules, tests)))
+    let q = c.in-Selection in
+    let asked : Selection = record { subject = q.subject; feature = q.feature; child = q.child } in
+    by_both asked c.requires.selections q.is
+    (sym (any_from_yields_List (λ s. is_under r s asked) _ _ c.any.result c.any.ensures.ran
+    (YieldsList-from_slice list (cc)) (λ x b q k. search (rules, tests)))
     ∙ c.if-any.true)
-    (any_from_yields_List over _ _ c.any-then-any.result c.any-then-any.ensures.ran (YieldsList-from_slice list (cc))
-    (λ x b q k. search (rules, tests)))
+    (any_from_yields_List (is_under r asked) _ _ c.any-then-any.result c.any-then-any.ensures.ran
+    (YieldsList-from_slice list (cc)) (λ x b q k. search (rules, tests)))
 
 pub returns-else-any : goal.returns-else-any
 returns-else-any c =
     let list = c.args.list.now in
     let r = facts c.args.table.now.n c.args.table.now.cells.now in
-    let under = is_under r c.in-Selection.subject.0 c.in-Selection.feature.0 c.in-Selection.child.0 in
-    by_none_under c.requires.selections c.in-Selection.is
-    (any_from_yields_List under _ _ c.any.result c.any.ensures.ran (YieldsList-from_slice list (cc))
-    (λ x b q k. search (rules, tests)))
+    let q = c.in-Selection in
+    let asked : Selection = record { subject = q.subject; feature = q.feature; child = q.child } in
+    by_none_under asked c.requires.selections q.is
+    (any_from_yields_List (λ s. is_under r s asked) _ _ c.any.result c.any.ensures.ran
+    (YieldsList-from_slice list (cc)) (λ x b q k. search (rules, tests)))
     c.if-any.false
 
 pub returns-in-Labelling : goal.returns-in-Labelling
