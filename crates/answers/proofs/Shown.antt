@@ -4,11 +4,16 @@ use lib.ListN.{length, get_or}
 use mathlib.Core.Bool.{Bool, true, false, ◌&&◌}
 use mathlib.Core.List.{List}
 use mathlib.Core.Path.{◌≡◌, refl, sym, ap, ◌∙◌}
+use Rattle.std.specs.Prelude.{Option}
 use Rattle.std.specs.Cmp.Derive.{both_true}
+use Rattle.std.specs.Iterator.{CallableAtEachTurn}
 use Rattle.std.specs.List.{list_any, range_with_len}
 use Rattle.std.proofs.lemmas.Bool.{and_parts}
+use Rattle.std.proofs.lemmas.Iterator.{YieldsList}
+use Rattle.std.proofs.lemmas.Iterator.Adapters.{serves_from_places}
 use Rattle.std.proofs.lemmas.List.{get_or_default}
 use Rattle.std.proofs.lemmas.List.Folds.{list_any_at}
+use Rattle.fields.specs.declared.numbers.Feature.{Feature}
 use Rattle.fields.specs.declared.numbers.Label.{Label}
 use Rattle.fields.specs.declared.numbers.Variable.{Variable}
 use Rattle.fields.specs.Tests.{same}
@@ -35,11 +40,19 @@ use Rattle.answers.proofs.Logic.{fails_first, second_decides}
 use Rattle.answers.proofs.Ranges.{passing_at, any_in_range}
 
 -- each of the list is lawful
-pub lawful_at : {n : ℕ} {list : List Selection} → Selections n list → (s : Selection) (k : ℕ) → k < length list
+lawful_at : {n : ℕ} {list : List Selection} → Selections n list → (s : Selection) (k : ℕ) → k < length list
     → s ≡ get_or list k s → IsSelection n s
 lawful_at {n} {list} lawful s k h e =
     let here = e ∙ get_or_default list k s (selection_of 0 0 0) h in
     rw here (record { subject = lawful.subject_below k h; child = lawful.child_below k h })
+
+-- a search of the list may ask of each that it is lawful
+pub lawful_turns : {n : ℕ} {list : List Selection} → Selections n list → {S A F : Type 0}
+    → {steps : S → Option A → S → Type 0} {v : A → Selection} {s : S} → YieldsList steps v s list
+    → {R : F → A → F → Type 0} {Q : F → A → Type 0} {f : F} → ((x : A) (q : F) → R f x q → q ≡ f)
+    → ((x : A) → IsSelection n (v x) → Q f x) → CallableAtEachTurn steps R Q s f
+lawful_turns lawful {v = v} road stays asks =
+    serves_from_places road stays λ x k h e. asks x (lawful_at lawful (v x) k h e)
 
 module _ {n : ℕ} {st : List Statement} {list : List Selection} (lawful : Selections n list)
     (stand : SelectionsStand n st (Listed list)) (r : Relation) (asked : Selection) where
@@ -98,9 +111,13 @@ label_sought n t {st} {spreads} stand one i a =
     let h = fact_row n t Kind.Ordered k i o in
     below_by _ n k h (both_true (stated_only (stand.at k h) (one.single k h) s) o))
 
+-- the selection that is asked
+abbrev asked : Variable → Feature → Variable → Selection
+asked i f j = record { subject = i; feature = f; child = j }
+
 -- what is told of a question, by its kind
-module _ {n : ℕ} {t : List ℕ} {list : List Selection} {spreads : List Spread} {q : Statement} {r : Bool} where
-  module _ {i j : Variable} {x y : ℕ} (first : x ≡ i.0) (second : y ≡ j.0) where
+module _ {n : ℕ} {t : List ℕ} {list : List Selection} {spreads : List Spread} {q : Statement} where
+  module _ {i j : Variable} {x y : ℕ} {r : Bool} (first : x ≡ i.0) (second : y ≡ j.0) where
     pub by_ordering : q ≡ Statement.Ordering i j → r ≡ facts n t Kind.Ordered x y → SupportTold n t list spreads q r
     unfolding supported
     by_ordering is p = record { told = λ st selections labels. rw (is, ← first, ← second) p }
@@ -110,29 +127,29 @@ module _ {n : ℕ} {t : List ℕ} {list : List Selection} {spreads : List Spread
     unfolding supported
     by_compatibility is p = record { told = λ st selections labels. rw (is, ← first, ← second) p }
 
-  module _ (asked : Selection) (lawful : Selections n list)
-      (is : q ≡ Statement.Selection asked.subject asked.feature asked.child) where
-    pub by_both : list_any (λ s. is_under (facts n t) s asked) list ≡ true
-        → r ≡ list_any (is_under (facts n t) asked) list → SupportTold n t list spreads q r
+  module _ {i j : Variable} {f : Feature} {u : Bool} (lawful : Selections n list) (is : q ≡ Statement.Selection i f j)
+      (under : u ≡ list_any (λ s. is_under (facts n t) s (asked i f j)) list) where
+    pub by_both : {r : Bool} → u ≡ true → r ≡ list_any (is_under (facts n t) (asked i f j)) list
+        → SupportTold n t list spreads q r
     unfolding supported
     by_both p e =
         record {
           told = λ st selections labels.
               rw is
-              (second_decides (sym (under_sought lawful selections (facts n t) asked) ∙ p)
-              (e ∙ over_sought lawful selections (facts n t) asked));
+              (second_decides (sym (under_sought lawful selections (facts n t) (asked i f j)) ∙ sym under ∙ p)
+              (e ∙ over_sought lawful selections (facts n t) (asked i f j)));
         }
 
-    pub by_none_under : r ≡ list_any (λ s. is_under (facts n t) s asked) list → r ≡ false
-        → SupportTold n t list spreads q r
+    pub by_none_under : u ≡ false → SupportTold n t list spreads q u
     unfolding supported
-    by_none_under e p =
+    by_none_under p =
         record {
           told = λ st selections labels.
-              rw is (p ∙ sym (fails_first _ (sym (under_sought lawful selections (facts n t) asked) ∙ sym e ∙ p)));
+              rw is
+              (p ∙ sym (fails_first _ (sym (under_sought lawful selections (facts n t) (asked i f j)) ∙ sym under ∙ p)));
         }
 
-  pub by_label : {i : Variable} {a : Label} {x : ℕ} → x ≡ i.0 → q ≡ Statement.Labelling i a
+  pub by_label : {i : Variable} {a : Label} {x : ℕ} {r : Bool} → x ≡ i.0 → q ≡ Statement.Labelling i a
       → LabelTold n t spreads x a.0 r → SupportTold n t list spreads q r
   unfolding supported
   by_label first is p = record { told = λ st selections labels. rw (is, ← first) (p.told st labels) }
