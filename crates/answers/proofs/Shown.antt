@@ -146,7 +146,8 @@ module _ {n : ℕ} {t : List ℕ} {list : List Selection} {spreads : List Spread
         record {
           told = λ st selections labels.
               rw is
-              (p ∙ sym (fails_first _ (sym (under_sought lawful selections (facts n t) (asked i f j)) ∙ sym under ∙ p)));
+              (p
+              ∙ sym (fails_first _ (sym (under_sought lawful selections (facts n t) (asked i f j)) ∙ sym under ∙ p)));
         }
 
   pub by_label : {i : Variable} {a : Label} {x : ℕ} {r : Bool} → x ≡ i.0 → q ≡ Statement.Labelling i a
