@@ -22,13 +22,11 @@ pub record IsSelection (n : ℕ) (s : Selection) : Type 0 where
   pub subject : s.subject.0 < n
   pub child : s.child.0 < n
 
--- k[f]m has k ≤ i and j ≤ m
-abbrev pub is_under : Relation → ℕ → ℕ → ℕ → Selection → Bool
-is_under r i f j s = same s.feature.0 f && (r Kind.Ordered s.subject.0 i && r Kind.Ordered j s.child.0)
-
--- k[f]m has i ≤ k and m ≤ j
-abbrev pub is_over : Relation → ℕ → ℕ → ℕ → Selection → Bool
-is_over r i f j s = same s.feature.0 f && (r Kind.Ordered i s.subject.0 && r Kind.Ordered s.child.0 j)
+-- upper is some k[f]m, and lower some i[f]j with k ≤ i and j ≤ m
+abbrev pub is_under : Relation → Selection → Selection → Bool
+is_under r upper lower =
+    same upper.feature.0 lower.feature.0
+    && (r Kind.Ordered upper.subject.0 lower.subject.0 && r Kind.Ordered lower.child.0 upper.child.0)
 
 -- whether some k ≤ i has the label a
 pub record LabelTold (n : ℕ) (t : List ℕ) (spreads : List Spread) (i a : ℕ) (r : Bool) : Type 0 where

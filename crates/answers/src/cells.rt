@@ -8,7 +8,7 @@ use table::Table;
 
 // Whether a fact of the kind holds of i and j.
 #[tactic(auto, using(rules::proofs::Tables::fact_said))]
-pub fn has_fact(table: &Table<'_>, kind: Kind, i: usize, j: usize) -> bool
+pub fn has_fact(table: &Table, kind: Kind, i: usize, j: usize) -> bool
     requires { Cell table.now.n table.now.cells.now i j }
     ensures { result ≡ facts table.now.n table.now.cells.now kind i j }
 {

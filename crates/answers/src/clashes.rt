@@ -11,7 +11,7 @@ use table::Table;
 
 // The least column at which row i has a clash.
 #[tactic(auto, using(crate::proofs::Clashed::row_unlabelled))]
-fn clash_in_row(table: &Table<'_>, labels: &Labels, i: usize) -> Option<Clash>
+fn clash_in_row(table: &Table, labels: &Labels, i: usize) -> Option<Clash>
     requires { Lent table.now.n table.now.cells.now × (i < table.now.n) }
     ensures { RowTold table.now.n table.now.cells.now labels.now.spreads i result }
 {
@@ -28,7 +28,7 @@ fn clash_in_row(table: &Table<'_>, labels: &Labels, i: usize) -> Option<Clash>
 }
 
 // The clash at the least row, and there at the least column.
-pub fn clash_of(table: &Table<'_>, labels: &Labels) -> Option<Clash>
+pub fn clash_of(table: &Table, labels: &Labels) -> Option<Clash>
     requires { Lent table.now.n table.now.cells.now }
     ensures { ClashTold table.now.n table.now.cells.now labels.now.spreads result }
 {
@@ -36,7 +36,7 @@ pub fn clash_of(table: &Table<'_>, labels: &Labels) -> Option<Clash>
 }
 
 // Whether the label a of i would clash with a label that is stated.
-pub fn label_clashes(table: &Table<'_>, labels: &Labels, i: usize, a: Label) -> bool
+pub fn label_clashes(table: &Table, labels: &Labels, i: usize, a: Label) -> bool
     requires { Lent table.now.n table.now.cells.now × (i < table.now.n) }
     ensures { LabelClashTold table.now.n table.now.cells.now labels.now.spreads i a.0 result }
 {

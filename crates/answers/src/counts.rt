@@ -9,7 +9,7 @@ use rules::Kind;
 use table::Table;
 
 // The facts of the kind in row i.
-fn count_row(table: &Table<'_>, kind: Kind, i: usize) -> usize
+fn count_row(table: &Table, kind: Kind, i: usize) -> usize
     requires { Lent table.now.n table.now.cells.now × (i < table.now.n) }
     ensures { RowCount table.now.n table.now.cells.now kind i result }
 {
@@ -20,7 +20,7 @@ fn count_row(table: &Table<'_>, kind: Kind, i: usize) -> usize
 
 // The facts of the kind in all rows.
 #[tactic(auto, unfolding(rules::specs::Tables::count_rows, rules::specs::Tables::count_facts))]
-pub fn count_facts(table: &Table<'_>, kind: Kind) -> usize
+pub fn count_facts(table: &Table, kind: Kind) -> usize
     requires { Lent table.now.n table.now.cells.now }
     ensures { result ≡ count_facts table.now.n (facts table.now.n table.now.cells.now) kind }
 {

@@ -6,7 +6,7 @@ ghost use Rattle.rules.specs.declared.kinds.Kind.{Kind};
 ghost use Rattle.table.specs.Cells.{Cell};
 ghost use Rattle.selections.specs.Listed.{Selections};
 ghost use Rattle.answers.specs.Cells.{Lent};
-ghost use Rattle.answers.specs.Supports.{SingleLabels, IsSelection, is_under, is_over, LabelTold, SupportTold};
+ghost use Rattle.answers.specs.Supports.{SingleLabels, IsSelection, is_under, LabelTold, SupportTold};
 
 use crate::cells::has_fact;
 use fields::{Label, Variable};
@@ -17,41 +17,27 @@ use selections::Selection;
 use table::Table;
 
 // Whether i ≤ j holds.
-fn is_below(table: &Table<'_>, i: Variable, j: Variable) -> bool
+fn is_below(table: &Table, i: Variable, j: Variable) -> bool
     requires { Cell table.now.n table.now.cells.now i.0 j.0 }
     ensures { result ≡ facts table.now.n table.now.cells.now Kind.Ordered i.0 j.0 }
 {
     has_fact(table, Kind::Ordered, i.index(), j.index())
 }
 
-// Whether the selection is some k[f]m with k ≤ i and j ≤ m, where i[f]j is asked.
+// Whether upper is some k[f]m, and lower some i[f]j with k ≤ i and j ≤ m.
 #[tactic(auto, unfolding(fields::specs::Tests::same))]
-fn is_under(table: &Table<'_>, selection: &Selection, asked: Selection) -> bool
+fn is_under(table: &Table, upper: &Selection, lower: &Selection) -> bool
     requires lent { Lent table.now.n table.now.cells.now }
-    requires selections { IsSelection table.now.n selection.now × IsSelection table.now.n asked }
-    ensures { result
-        ≡ is_under (facts table.now.n table.now.cells.now) asked.subject.0 asked.feature.0 asked.child.0 selection.now }
+    requires selections { IsSelection table.now.n upper.now × IsSelection table.now.n lower.now }
+    ensures { result ≡ is_under (facts table.now.n table.now.cells.now) upper.now lower.now }
 {
-    selection.feature == asked.feature
-        && is_below(table, selection.subject, asked.subject)
-        && is_below(table, asked.child, selection.child)
-}
-
-// Whether it has i ≤ k and m ≤ j. One function that is handed either order by a closure would be no plainer than two.
-#[tactic(auto, unfolding(fields::specs::Tests::same))]
-fn is_over(table: &Table<'_>, selection: &Selection, asked: Selection) -> bool
-    requires lent { Lent table.now.n table.now.cells.now }
-    requires selections { IsSelection table.now.n selection.now × IsSelection table.now.n asked }
-    ensures { result
-        ≡ is_over (facts table.now.n table.now.cells.now) asked.subject.0 asked.feature.0 asked.child.0 selection.now }
-{
-    selection.feature == asked.feature
-        && is_below(table, asked.subject, selection.subject)
-        && is_below(table, selection.child, asked.child)
+    upper.feature == lower.feature
+        && is_below(table, upper.subject, lower.subject)
+        && is_below(table, lower.child, upper.child)
 }
 
 // Whether some k ≤ i has the label a.
-fn has_label(table: &Table<'_>, labels: &Labels, i: usize, a: Label) -> bool
+fn has_label(table: &Table, labels: &Labels, i: usize, a: Label) -> bool
     requires lent { Lent table.now.n table.now.cells.now × (i < table.now.n) }
     requires single_labels { SingleLabels table.now.n labels.now.spreads }
     ensures { LabelTold table.now.n table.now.cells.now labels.now.spreads i a.0 result }
@@ -60,7 +46,7 @@ fn has_label(table: &Table<'_>, labels: &Labels, i: usize, a: Label) -> bool
 }
 
 // Whether the question is supported.
-pub fn supports(table: &Table<'_>, list: &[Selection], labels: &Labels, q: Statement) -> bool
+pub fn supports(table: &Table, list: &[Selection], labels: &Labels, q: Statement) -> bool
     requires lent { Lent table.now.n table.now.cells.now × Names table.now.n q }
     requires selections { Selections table.now.n list.now }
     requires single_labels { SingleLabels table.now.n labels.now.spreads }
@@ -76,10 +62,10 @@ pub fn supports(table: &Table<'_>, list: &[Selection], labels: &Labels, q: State
                 child,
             };
             list.iter()
-                .any(|selection| is_under(table, selection, asked))
+                .any(|selection| is_under(table, selection, &asked))
                 && list
                     .iter()
-                    .any(|selection| is_over(table, selection, asked))
+                    .any(|selection| is_under(table, &asked, selection))
         }
         Statement::Labelling(i, a) => has_label(table, labels, i.index(), a),
     }

@@ -6,7 +6,7 @@ use fields::Label;
 use items::Statement;
 
 // The different labels that are stated: of one variable, or of several.
-#[derive(Clone, Copy, Default)]
+#[derive(Clone, Copy, Default, Debug, PartialEq, Eq)]
 pub enum Spread {
     #[default]
     Nothing,
@@ -34,11 +34,7 @@ impl Spread {
     pub fn is_only(self, a: Label) -> bool
         ensures { result ≡ is_only self a.0 }
     {
-        match self {
-            Spread::Nothing => false,
-            Spread::One(b) => b == a,
-            Spread::Several => false,
-        }
+        matches!(self, Spread::One(b) if b == a)
     }
 
     // Whether there is a label other than a.

@@ -11,7 +11,7 @@ use table::Table;
 
 // How many facts the table has of each kind, or the pair that clashes in it.
 #[tactic(auto, using(crate::proofs::Counted::few_facts))]
-pub fn outcome_of(verdict: Verdict, closed: &Table<'_>) -> Outcome
+pub fn outcome_of(verdict: Verdict, closed: &Table) -> Outcome
     requires { Lent closed.now.n closed.now.cells.now }
     ensures { result ≡ outcome_by closed.now.n (facts closed.now.n closed.now.cells.now) verdict }
 {

@@ -1,7 +1,6 @@
 -- The counts of the rows are summed, and are few.
-use Rattle.std.proofs.Common.{ℕ, ◌∙◌, arith, rules}
+use Rattle.std.proofs.Common.{◌∙◌, arith, rules}
 use native.Mathlib.Nat.{mul-le-mul}
-use Rattle.std.specs.List.{range_with_len}
 use Rattle.std.proofs.lemmas.Iterator.{YieldsList-from_range, YieldsList-from_map}
 use Rattle.std.proofs.lemmas.Iterator.Consumers.{sum_by_from_yields_List, fits_by_from_yields_list}
 use Rattle.rules.specs.Tables.{facts, count_row, count_facts}
@@ -14,9 +13,8 @@ unfolding count_facts
 sum-requires-clause-fits c =
     let t = c.args.table.now in
     let r = facts t.n t.cells.now in
-    let row : ℕ → ℕ = count_row t.n r c.args.kind in
-    fits_by_from_yields_list row (range_with_len 0 t.n) c.map.result _
-    (YieldsList-from_map _ row (YieldsList-from_range 0 t.n t.n (cc) (omega arith)) c.map.ensures.closure
+    fits_by_from_yields_list (count_row t.n r c.args.kind) _ _ _
+    (YieldsList-from_map _ _ (YieldsList-from_range 0 t.n t.n (cc) (omega arith)) c.map.ensures.closure
     (λ x b q k. search rules))
     (omega (
       arith,
@@ -30,8 +28,7 @@ unfolding count_facts
 returns c =
     let t = c.args.table.now in
     let r = facts t.n t.cells.now in
-    let row : ℕ → ℕ = count_row t.n r c.args.kind in
-    sum_by_from_yields_List row (range_with_len 0 t.n) c.map.result _ c.sum.ensures.ran
-    (YieldsList-from_map _ row (YieldsList-from_range 0 t.n t.n (cc) (omega arith)) c.map.ensures.closure
+    sum_by_from_yields_List (count_row t.n r c.args.kind) _ _ _ c.sum.ensures.ran
+    (YieldsList-from_map _ _ (YieldsList-from_range 0 t.n t.n (cc) (omega arith)) c.map.ensures.closure
     (λ x b q k. search rules))
     ∙ rows_counted t.n t.n r c.args.kind

@@ -1,11 +1,8 @@
 -- Each kind of question by its own search.
-use Rattle.std.proofs.Common.{refl, sym, ◌∙◌, rules, tests}
+use Rattle.std.proofs.Common.{refl, rules, tests}
 use Rattle.std.proofs.lemmas.Iterator.{YieldsList-from_slice}
-use Rattle.std.proofs.lemmas.Iterator.Adapters.{serves_from_places}
 use Rattle.std.proofs.lemmas.Iterator.Search.{any_from_yields_List}
-use Rattle.rules.specs.Tables.{facts}
-use Rattle.answers.specs.Supports.{is_under, is_over}
-use Rattle.answers.proofs.Shown.{lawful_at, by_ordering, by_compatibility, by_both, by_none_under, by_label}
+use Rattle.answers.proofs.Shown.{lawful_turns, by_ordering, by_compatibility, by_both, by_none_under, by_label}
 use Rattle.answers.proofs.support.supports.Goals as goal
 
 pub returns-in-Ordering : goal.returns-in-Ordering
@@ -15,39 +12,27 @@ pub returns-in-Compatibility : goal.returns-in-Compatibility
 returns-in-Compatibility c =
     by_compatibility c.index.ensures c.index-in-Compatibility.ensures c.in-Compatibility.is c.has_fact.ensures
 
--- each selection of the list is lawful
 pub any-requires-clause-callable : goal.any-requires-clause-callable
 any-requires-clause-callable c =
-    serves_from_places (YieldsList-from_slice c.args.list.now (cc)) (λ x q k. search rules) λ x k h e.
-    let lawful = lawful_at c.requires.selections x.now k h e in
-    search rules
+    lawful_turns c.requires.selections (YieldsList-from_slice _ (cc)) (λ x q k. search rules) λ x lawful. search rules
 
 pub any-requires-then-any-clause-callable : goal.any-requires-then-any-clause-callable
 any-requires-then-any-clause-callable c =
-    serves_from_places (YieldsList-from_slice c.args.list.now (cc)) (λ x q k. search rules) λ x k h e.
-    let lawful = lawful_at c.requires.selections x.now k h e in
-    search rules
+    lawful_turns c.requires.selections (YieldsList-from_slice _ (cc)) (λ x q k. search rules) λ x lawful. search rules
 
 pub returns-then-any : goal.returns-then-any
 returns-then-any c =
-    let list = c.args.list.now in
-    let r = facts c.args.table.now.n c.args.table.now.cells.now in
-    let under = is_under r c.in-Selection.subject.0 c.in-Selection.feature.0 c.in-Selection.child.0 in
-    let over = is_over r c.in-Selection.subject.0 c.in-Selection.feature.0 c.in-Selection.child.0 in
     by_both c.requires.selections c.in-Selection.is
-    (sym (any_from_yields_List under _ _ c.any.result c.any.ensures.ran (YieldsList-from_slice list (cc))
+    (any_from_yields_List _ _ _ _ c.any.ensures.ran (YieldsList-from_slice c.args.list.now (cc))
     (λ x b q k. search (rules, tests)))
-    ∙ c.if-any.true)
-    (any_from_yields_List over _ _ c.any-then-any.result c.any-then-any.ensures.ran (YieldsList-from_slice list (cc))
+    c.if-any.true
+    (any_from_yields_List _ _ _ _ c.any-then-any.ensures.ran (YieldsList-from_slice c.args.list.now (cc))
     (λ x b q k. search (rules, tests)))
 
 pub returns-else-any : goal.returns-else-any
 returns-else-any c =
-    let list = c.args.list.now in
-    let r = facts c.args.table.now.n c.args.table.now.cells.now in
-    let under = is_under r c.in-Selection.subject.0 c.in-Selection.feature.0 c.in-Selection.child.0 in
     by_none_under c.requires.selections c.in-Selection.is
-    (any_from_yields_List under _ _ c.any.result c.any.ensures.ran (YieldsList-from_slice list (cc))
+    (any_from_yields_List _ _ _ _ c.any.ensures.ran (YieldsList-from_slice c.args.list.now (cc))
     (λ x b q k. search (rules, tests)))
     c.if-any.false
 
