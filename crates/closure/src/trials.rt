@@ -6,7 +6,7 @@ ghost use Rattle.rules.specs.Tables.{kind_cell};
 ghost use Rattle.facts.specs.Additions.{Said};
 ghost use Rattle.facts.specs.Growth.{IsSame};
 ghost use Rattle.selections.specs.Groups.{Grouped};
-ghost use Rattle.closure.specs.Making.{variables_of, table_of, spreads_of, IsTold};
+ghost use Rattle.closure.specs.Making.{variables_of, table_of, spreads_of};
 ghost use Rattle.closure.specs.Trials.{TryingFact, TryingSelection, Tries, Restored, Queueing};
 ghost use Rattle.closure.specs.Trials.{SubjectQueued, Searching, EntryTold, Sought, QueueTold, Searched};
 ghost use Rattle.closure.specs.Trials.{WithOne, Nothing, Standing, Consistent, Tried, Asking};
@@ -157,7 +157,6 @@ fn try_where_labels_differ(
 ) -> bool
     requires sizes { variables_of closed.now ≡ growth.old.n }
     requires asking { Asking (table_of closed.now) growth.old groups.old q }
-    requires told { IsTold closed.now }
     ensures tried { Tried growth.old.n
         (Consistent growth.old.n (table_of closed.now) groups.old (spreads_of closed.now)) q result }
     ensures restored { Restored growth.old growth.new groups.old groups.new }
@@ -172,7 +171,6 @@ fn try_where_labels_differ(
 pub fn trial(closed: &Closed, growth: &mut Growth, groups: &mut Groups, q: Statement) -> bool
     requires sizes { variables_of closed.now ≡ growth.old.n }
     requires asking { Asking (table_of closed.now) growth.old groups.old q }
-    requires told { IsTold closed.now }
     ensures tried { Tried growth.old.n
         (Standing growth.old.n (table_of closed.now) groups.old (spreads_of closed.now)) q result }
     ensures restored { Restored growth.old growth.new groups.old groups.new }
