@@ -2,7 +2,7 @@
 use Prim.Native.Nat.{ℕ}
 use mathlib.Core.Bool.{Bool}
 use mathlib.Core.List.{List, [], ◌∷◌, ◌++◌}
-use mathlib.Core.Path.{◌≡◌, sym, ap, subst, ◌∙◌}
+use mathlib.Core.Path.{◌≡◌, sym, ap, ◌∙◌}
 use Rattle.std.specs.Prelude.{Option, None, is_some}
 use Rattle.items.specs.declared.items.Statement.{Statement}
 use Rattle.items.specs.Statements.{Names, AllName}
@@ -27,6 +27,8 @@ use Rattle.answers.specs.Supports.{SingleLabels, SupportTold}
 use Rattle.answers.proofs.OneLabel.{single_labels_lem}
 use Rattle.derivation.specs.declared.pairs.Pair.{Pair}
 use Rattle.derivation.specs.Stands.{PairsStand, Pairs, Deriving, DerivedFrom}
+use Rattle.closure.specs.declared.closed.Closed.{Closed}
+use Rattle.closure.specs.Making.{variables_of, table_of}
 use Rattle.closure.specs.Trials.{Trying, Asking, Standing, Tried}
 
 -- groups made of a selection list
@@ -52,11 +54,12 @@ module _ {n : ℕ} {list : List Selection} {before groups : Groups} (lawful : Se
           spare = made_spare lawful grouping;
         }
 
-    pub may_ask : (g : Growth) (q : Statement) → g.n ≡ n → g.cells.now ≡ t → Names g.n q → Asking t g groups q
-    may_ask g q same copied named =
+    pub may_ask : (c : Closed) (g : Growth) (q : Statement) → variables_of c ≡ n → table_of c ≡ t → g.n ≡ n
+        → g.cells.now ≡ t → Names g.n q → Asking c g groups q
+    may_ask c g q sizes table same copied named =
         record {
-          copied = copied;
-          trying = subst (λ z. Trying z t groups) (sym same) may_try;
+          copy = record { sizes = sizes ∙ sym same; table = copied ∙ sym table };
+          trying = rw (same, table) may_try;
           names = named;
         }
 

@@ -9,12 +9,12 @@ pub returns-then-is_some-clause-tried : goal.returns-then-is_some-clause-tried
 returns-then-is_some-clause-tried c =
     let closed = c.args.closed.now in
     clash_stays
-    (subst (λ n. ClashTold n (table_of closed) (spreads_of closed) closed.clash) c.requires.sizes closed.told.first)
+    (subst (λ n. ClashTold n (table_of closed) (spreads_of closed) closed.clash) c.requires.asking.copy.sizes closed.told.first)
     _ c.requires.asking.names (cc)
 
 pub returns-clause-tried : goal.returns-clause-tried
 returns-clause-tried c =
     let closed = c.args.closed.now in
     all_told
-    (subst (λ n. ClashTold n (table_of closed) (spreads_of closed) closed.clash) c.requires.sizes closed.told.first)
+    (subst (λ n. ClashTold n (table_of closed) (spreads_of closed) closed.clash) c.requires.asking.copy.sizes closed.told.first)
     _ c.requires.asking.names (cc) c.try_where_labels_differ.ensures.tried

@@ -4,5 +4,5 @@ use Rattle.closure.proofs.trials.try_where_labels_differ.Goals as goal
 
 pub returns-clause-tried : goal.returns-clause-tried
 returns-clause-tried c =
-    skip_where _ c.requires.sizes c.args.closed.now.told.all c.requires.asking.names c.can_clash.ensures
+    skip_where _ c.requires.asking.copy.sizes c.args.closed.now.told.all c.requires.asking.names c.can_clash.ensures
     c.if-can_clash.false
