@@ -1,9 +1,11 @@
 -- What the check rests on: from statements that stand in the lent arrays to all that is told of them.
-use Prim.Native.Nat.{ℕ}
+use Prim.Native.Nat.{ℕ, ◌*◌, ◌≤◌}
+use lib.ListN.{length}
 use mathlib.Core.Bool.{Bool}
 use mathlib.Core.List.{List, [], ◌∷◌, ◌++◌}
 use mathlib.Core.Path.{◌≡◌, sym, ap, ◌∙◌}
 use Rattle.std.specs.Prelude.{Option, None, is_some}
+use Rattle.fields.specs.Limits.{most_variables}
 use Rattle.items.specs.declared.items.Statement.{Statement}
 use Rattle.items.specs.Statements.{Names, AllName}
 use Rattle.rules.specs.declared.clashes.Clash.{Clash}
@@ -21,7 +23,6 @@ use Rattle.selections.specs.Stands.{SelectionsStand}
 use Rattle.selections.proofs.Theorems.{made_groups, made_spare, made_stand}
 use Rattle.labels.specs.declared.spread.Spread.{Spread}
 use Rattle.labels.specs.Labels.{LabelsStand}
-use Rattle.answers.specs.Cells.{Lent}
 use Rattle.answers.specs.Clashes.{ClashTold}
 use Rattle.answers.specs.Supports.{SingleLabels, SupportTold}
 use Rattle.answers.proofs.OneLabel.{single_labels_lem}
@@ -39,8 +40,8 @@ module _ {n : ℕ} {list : List Selection} {before groups : Groups} (lawful : Se
 
   -- a table that `derive` left
   module _ {pairs : List Pair} {t : List ℕ} (from : DerivedFrom n pairs groups t) where
-    pub may_be_told : Lent n t
-    may_be_told = record { few = lawful.few; shape = from.shape }
+    pub may_be_read : (n ≤ most_variables) × (length t ≡ n * n)
+    may_be_read = (lawful.few, from.shape.size)
 
     -- a question may be tried in a copy of it
     pub may_try : Trying n t groups

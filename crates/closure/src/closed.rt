@@ -1,6 +1,5 @@
 // What is known of statements whose facts are all derived.
 ghost use Rattle.std.specs.Prelude.{◌≡◌};
-ghost use Rattle.answers.specs.Cells.{Lent};
 ghost use Rattle.closure.specs.Told.{IsTold};
 ghost use Rattle.std.proofs.Props.{props};
 
@@ -27,7 +26,6 @@ pub struct Closed<'a> {
 impl<'a> Closed<'a> {
     // With what follows of labels and clash.
     pub fn new(table: &'a Table<'a>, selections: &'a [Selection], labels: &'a Labels) -> Closed<'a>
-        requires { Lent table.now.n table.now.cells.now }
         ensures table { result.table.now ≡ table.now }
         ensures selections { result.selections.now ≡ selections.now }
         ensures labels { result.labels.now ≡ labels.now }
