@@ -1,5 +1,4 @@
 -- What is told of a closed fact table.
-pub mod Cells
 pub mod Clashes
 pub mod Counts
 pub mod Supports

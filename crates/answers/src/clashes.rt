@@ -1,6 +1,5 @@
 // F5: the pair that clashes, and whether one more label would clash.
 ghost use Rattle.std.specs.Prelude.{◌<◌};
-ghost use Rattle.answers.specs.Cells.{Lent};
 ghost use Rattle.answers.specs.Clashes.{RowTold, ClashTold, LabelClashTold};
 
 use crate::cells::has_fact;
@@ -12,7 +11,7 @@ use table::Table;
 // The least column at which row i has a clash.
 #[tactic(auto, using(crate::proofs::Clashed::row_unlabelled))]
 fn clash_in_row(table: &Table, labels: &Labels, i: usize) -> Option<Clash>
-    requires { Lent table.now.n table.now.cells.now × (i < table.now.n) }
+    requires { i < table.now.n }
     ensures { RowTold table.now.n table.now.cells.now labels.now.spreads i result }
 {
     if !labels.spreads[i].has_any() {
@@ -29,7 +28,6 @@ fn clash_in_row(table: &Table, labels: &Labels, i: usize) -> Option<Clash>
 
 // The clash at the least row, and there at the least column.
 pub fn clash_of(table: &Table, labels: &Labels) -> Option<Clash>
-    requires { Lent table.now.n table.now.cells.now }
     ensures { ClashTold table.now.n table.now.cells.now labels.now.spreads result }
 {
     (0..table.n).find_map(|i| clash_in_row(table, labels, i))
@@ -37,7 +35,7 @@ pub fn clash_of(table: &Table, labels: &Labels) -> Option<Clash>
 
 // Whether the label a of i would clash with a label that is stated.
 pub fn label_clashes(table: &Table, labels: &Labels, i: usize, a: Label) -> bool
-    requires { Lent table.now.n table.now.cells.now × (i < table.now.n) }
+    requires { i < table.now.n }
     ensures { LabelClashTold table.now.n table.now.cells.now labels.now.spreads i a.0 result }
 {
     (0..table.n).any(|j| has_fact(table, Kind::Compatible, i, j) && labels.has_other(j, a))

@@ -1,7 +1,6 @@
 // How many facts the table has.
 ghost use Rattle.std.specs.Prelude.{◌<◌, ◌≡◌};
 ghost use Rattle.rules.specs.Tables.{facts, count_facts};
-ghost use Rattle.answers.specs.Cells.{Lent};
 ghost use Rattle.answers.specs.Counts.{RowCount};
 
 use crate::cells::has_fact;
@@ -10,7 +9,7 @@ use table::Table;
 
 // The facts of the kind in row i.
 fn count_row(table: &Table, kind: Kind, i: usize) -> usize
-    requires { Lent table.now.n table.now.cells.now × (i < table.now.n) }
+    requires { i < table.now.n }
     ensures { RowCount table.now.n table.now.cells.now kind i result }
 {
     (0..table.n)
@@ -21,7 +20,6 @@ fn count_row(table: &Table, kind: Kind, i: usize) -> usize
 // The facts of the kind in all rows.
 #[tactic(auto, unfolding(rules::specs::Tables::count_rows, rules::specs::Tables::count_facts))]
 pub fn count_facts(table: &Table, kind: Kind) -> usize
-    requires { Lent table.now.n table.now.cells.now }
     ensures { result ≡ count_facts table.now.n (facts table.now.n table.now.cells.now) kind }
 {
     (0..table.n).map(|i| count_row(table, kind, i)).sum()

@@ -3,9 +3,7 @@ ghost use Rattle.std.specs.Prelude.{◌<◌, ◌≡◌};
 ghost use Rattle.items.specs.Statements.{Names};
 ghost use Rattle.rules.specs.Tables.{facts};
 ghost use Rattle.rules.specs.declared.kinds.Kind.{Kind};
-ghost use Rattle.table.specs.Cells.{Cell};
 ghost use Rattle.selections.specs.Listed.{Selections};
-ghost use Rattle.answers.specs.Cells.{Lent};
 ghost use Rattle.answers.specs.Supports.{SingleLabels, IsSelection, is_under, LabelTold, SupportTold};
 
 use crate::cells::has_fact;
@@ -18,7 +16,7 @@ use table::Table;
 
 // Whether i ≤ j holds.
 fn is_below(table: &Table, i: Variable, j: Variable) -> bool
-    requires { Cell table.now.n table.now.cells.now i.0 j.0 }
+    requires { (i.0 < table.now.n) × (j.0 < table.now.n) }
     ensures { result ≡ facts table.now.n table.now.cells.now Kind.Ordered i.0 j.0 }
 {
     has_fact(table, Kind::Ordered, i.index(), j.index())
@@ -27,8 +25,7 @@ fn is_below(table: &Table, i: Variable, j: Variable) -> bool
 // Whether upper is some k[f]m, and lower some i[f]j with k ≤ i and j ≤ m.
 #[tactic(auto, unfolding(fields::specs::Tests::same))]
 fn is_under(table: &Table, upper: &Selection, lower: &Selection) -> bool
-    requires lent { Lent table.now.n table.now.cells.now }
-    requires selections { IsSelection table.now.n upper.now × IsSelection table.now.n lower.now }
+    requires { IsSelection table.now.n upper.now × IsSelection table.now.n lower.now }
     ensures { result ≡ is_under (facts table.now.n table.now.cells.now) upper.now lower.now }
 {
     upper.feature == lower.feature
@@ -38,7 +35,7 @@ fn is_under(table: &Table, upper: &Selection, lower: &Selection) -> bool
 
 // Whether some k ≤ i has the label a.
 fn has_label(table: &Table, labels: &Labels, i: usize, a: Label) -> bool
-    requires lent { Lent table.now.n table.now.cells.now × (i < table.now.n) }
+    requires small { i < table.now.n }
     requires single_labels { SingleLabels table.now.n labels.now.spreads }
     ensures { LabelTold table.now.n table.now.cells.now labels.now.spreads i a.0 result }
 {
@@ -47,7 +44,7 @@ fn has_label(table: &Table, labels: &Labels, i: usize, a: Label) -> bool
 
 // Whether the question is supported.
 pub fn supports(table: &Table, list: &[Selection], labels: &Labels, q: Statement) -> bool
-    requires lent { Lent table.now.n table.now.cells.now × Names table.now.n q }
+    requires names { Names table.now.n q }
     requires selections { Selections table.now.n list.now }
     requires single_labels { SingleLabels table.now.n labels.now.spreads }
     ensures { SupportTold table.now.n table.now.cells.now list.now labels.now.spreads q result }

@@ -1,9 +1,11 @@
 -- What the check rests on: from statements that stand in the lent arrays to all that is told of them.
-use Prim.Native.Nat.{ℕ}
+use Prim.Native.Nat.{ℕ, ◌*◌, ◌≤◌}
+use lib.ListN.{length}
 use mathlib.Core.Bool.{Bool}
 use mathlib.Core.List.{List, [], ◌∷◌, ◌++◌}
-use mathlib.Core.Path.{◌≡◌, sym, ap, subst, ◌∙◌}
+use mathlib.Core.Path.{◌≡◌, sym, ap, ◌∙◌}
 use Rattle.std.specs.Prelude.{Option, None, is_some}
+use Rattle.fields.specs.Limits.{most_variables}
 use Rattle.items.specs.declared.items.Statement.{Statement}
 use Rattle.items.specs.Statements.{Names, AllName}
 use Rattle.rules.specs.declared.clashes.Clash.{Clash}
@@ -21,12 +23,13 @@ use Rattle.selections.specs.Stands.{SelectionsStand}
 use Rattle.selections.proofs.Theorems.{made_groups, made_spare, made_stand}
 use Rattle.labels.specs.declared.spread.Spread.{Spread}
 use Rattle.labels.specs.Labels.{LabelsStand}
-use Rattle.answers.specs.Cells.{Lent}
 use Rattle.answers.specs.Clashes.{ClashTold}
 use Rattle.answers.specs.Supports.{SingleLabels, SupportTold}
 use Rattle.answers.proofs.OneLabel.{single_labels_lem}
 use Rattle.derivation.specs.declared.pairs.Pair.{Pair}
 use Rattle.derivation.specs.Stands.{PairsStand, Pairs, Deriving, DerivedFrom}
+use Rattle.closure.specs.declared.closed.Closed.{Closed}
+use Rattle.closure.specs.Making.{variables_of, table_of}
 use Rattle.closure.specs.Trials.{Trying, Asking, Standing, Tried}
 
 -- groups made of a selection list
@@ -37,8 +40,8 @@ module _ {n : ℕ} {list : List Selection} {before groups : Groups} (lawful : Se
 
   -- a table that `derive` left
   module _ {pairs : List Pair} {t : List ℕ} (from : DerivedFrom n pairs groups t) where
-    pub may_be_told : Lent n t
-    may_be_told = record { few = lawful.few; shape = from.shape }
+    pub may_be_read : (n ≤ most_variables) × (length t ≡ n * n)
+    may_be_read = (lawful.few, from.shape.size)
 
     -- a question may be tried in a copy of it
     pub may_try : Trying n t groups
@@ -52,11 +55,12 @@ module _ {n : ℕ} {list : List Selection} {before groups : Groups} (lawful : Se
           spare = made_spare lawful grouping;
         }
 
-    pub may_ask : (g : Growth) (q : Statement) → g.n ≡ n → g.cells.now ≡ t → Names g.n q → Asking t g groups q
-    may_ask g q same copied named =
+    pub may_ask : (c : Closed) (g : Growth) (q : Statement) → variables_of c ≡ n → table_of c ≡ t → g.n ≡ n
+        → g.cells.now ≡ t → Names g.n q → Asking c g groups q
+    may_ask c g q sizes table same copied named =
         record {
-          copied = copied;
-          trying = subst (λ z. Trying z t groups) (sym same) may_try;
+          copy = record { sizes = sizes ∙ sym same; table = copied ∙ sym table };
+          trying = rw (same, table) may_try;
           names = named;
         }
 

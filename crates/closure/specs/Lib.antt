@@ -1,3 +1,4 @@
 -- Trials, and what is made for them.
 pub mod Trials
+pub mod Told
 pub mod Making

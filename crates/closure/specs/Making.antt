@@ -6,8 +6,6 @@ use Rattle.selections.specs.declared.listed.Selection.{Selection}
 use Rattle.selections.specs.Listed.{Selections}
 use Rattle.selections.specs.Places.{Grouping}
 use Rattle.labels.specs.declared.spread.Spread.{Spread}
-use Rattle.labels.specs.Spreads.{spread_below}
-use Rattle.answers.specs.Clashes.{ClashTold}
 use Rattle.derivation.specs.declared.pairs.Pair.{Pair}
 use Rattle.derivation.specs.Stands.{Pairs, DerivedFrom}
 use Rattle.closure.specs.declared.closed.Closed.{Closed}
@@ -33,8 +31,3 @@ table_of c = c.table.now.cells.now
 
 abbrev pub spreads_of : Closed → List Spread
 spreads_of c = c.labels.now.spreads
-
--- what is told of them is so
-pub record IsTold (c : Closed) : Type 0 where
-  pub clash : ClashTold (variables_of c) (table_of c) (spreads_of c) c.clash
-  pub spread : c.spread ≡ spread_below (variables_of c) (spreads_of c)

@@ -20,6 +20,8 @@ use Rattle.selections.specs.Stands.{Selected, SelectionsStand}
 use Rattle.labels.specs.declared.spread.Spread.{Spread}
 use Rattle.labels.specs.Labels.{LabelsStand}
 use Rattle.derivation.specs.Settled.{Descends}
+use Rattle.closure.specs.declared.closed.Closed.{Closed}
+use Rattle.closure.specs.Making.{variables_of, table_of}
 
 -- the same growth with the facts of before, and the groups of before
 pub record Restored (g g' : Growth) (groups groups' : Groups) : Type 0 where
@@ -146,8 +148,13 @@ pub record Consistent (n : ℕ) (closed : List ℕ) (groups : Groups) (spreads :
 pub record Tried (n : ℕ) (Some : List Statement → Type 0) (q : Statement) (r : Bool) : Type 0 where
   pub answer : (st : List Statement) → Some st → r ≡ clashes (st ++ (q ∷ [])) n
 
+-- a growth of as many variables as closed statements, with a copy of their table
+pub record IsCopy (c : Closed) (g : Growth) : Type 0 where
+  pub sizes : variables_of c ≡ g.n
+  pub table : g.cells.now ≡ table_of c
+
 -- a question on trial, in a copy of the closed table
-pub record Asking (closed : List ℕ) (g : Growth) (groups : Groups) (q : Statement) : Type 0 where
-  pub copied : g.cells.now ≡ closed
-  pub trying : Trying g.n closed groups
+pub record Asking (c : Closed) (g : Growth) (groups : Groups) (q : Statement) : Type 0 where
+  pub copy : IsCopy c g
+  pub trying : Trying g.n (table_of c) groups
   pub names : Names g.n q

@@ -1,7 +1,7 @@
 // What is known of statements whose facts are all derived.
 ghost use Rattle.std.specs.Prelude.{◌≡◌};
-ghost use Rattle.answers.specs.Cells.{Lent};
-ghost use Rattle.closure.specs.Making.{IsTold};
+ghost use Rattle.closure.specs.Told.{IsTold};
+ghost use Rattle.std.proofs.Props.{props};
 
 use answers::clash_of;
 use labels::{Labels, Spread};
@@ -20,16 +20,15 @@ pub struct Closed<'a> {
     pub spread: Spread,
     // the pair that clashes, if there is one
     pub clash: Option<Clash>,
+    pub ghost told: { IsTold table.now.n table.now.cells.now labels.now.spreads clash spread } by { Prim.hlevel props },
 }
 
 impl<'a> Closed<'a> {
     // With what follows of labels and clash.
     pub fn new(table: &'a Table<'a>, selections: &'a [Selection], labels: &'a Labels) -> Closed<'a>
-        requires { Lent table.now.n table.now.cells.now }
         ensures table { result.table.now ≡ table.now }
         ensures selections { result.selections.now ≡ selections.now }
         ensures labels { result.labels.now ≡ labels.now }
-        ensures told { IsTold result }
     {
         Closed {
             table,

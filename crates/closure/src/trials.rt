@@ -6,10 +6,10 @@ ghost use Rattle.rules.specs.Tables.{kind_cell};
 ghost use Rattle.facts.specs.Additions.{Said};
 ghost use Rattle.facts.specs.Growth.{IsSame};
 ghost use Rattle.selections.specs.Groups.{Grouped};
-ghost use Rattle.closure.specs.Making.{variables_of, table_of, spreads_of, IsTold};
+ghost use Rattle.closure.specs.Making.{table_of, spreads_of};
 ghost use Rattle.closure.specs.Trials.{TryingFact, TryingSelection, Tries, Restored, Queueing};
 ghost use Rattle.closure.specs.Trials.{SubjectQueued, Searching, EntryTold, Sought, QueueTold, Searched};
-ghost use Rattle.closure.specs.Trials.{WithOne, Nothing, Standing, Consistent, Tried, Asking};
+ghost use Rattle.closure.specs.Trials.{WithOne, Nothing, Standing, Consistent, Tried, IsCopy, Asking};
 
 use crate::closed::Closed;
 use answers::label_clashes;
@@ -93,8 +93,7 @@ fn fact_clashes(
     j: Variable,
 ) -> bool
     requires trying { TryingFact growth.old.n growth.old.cells.now groups.now i.0 j.0 }
-    requires sizes { variables_of closed.now ≡ growth.old.n }
-    requires copied { growth.old.cells.now ≡ table_of closed.now }
+    requires copy { IsCopy closed.now growth.old }
     ensures searched { Searched growth.old.n (Grouped groups.now) (Said (kind_cell kind) i.0 j.0)
         (table_of closed.now) (spreads_of closed.now) result }
     ensures restored { Restored growth.old growth.new groups.now groups.now }
@@ -114,8 +113,7 @@ fn selection_clashes(
     child: Child,
 ) -> bool
     requires trying { TryingSelection growth.old.n growth.old.cells.now groups.old i.0 child.variable.0 }
-    requires sizes { variables_of closed.now ≡ growth.old.n }
-    requires copied { growth.old.cells.now ≡ table_of closed.now }
+    requires copy { IsCopy closed.now growth.old }
     ensures searched { Searched growth.old.n
         (WithOne (Grouped groups.old) i.0 child.feature.0 child.variable.0)
         Nothing (table_of closed.now) (spreads_of closed.now) result }
@@ -130,8 +128,7 @@ fn selection_clashes(
 
 // Whether a statement on trial clashes with statements that do not clash.
 fn try_statement(closed: &Closed, growth: &mut Growth, groups: &mut Groups, q: Statement) -> bool
-    requires sizes { variables_of closed.now ≡ growth.old.n }
-    requires asking { Asking (table_of closed.now) growth.old groups.old q }
+    requires asking { Asking closed.now growth.old groups.old q }
     ensures tried { Tried growth.old.n
         (Consistent growth.old.n (table_of closed.now) groups.old (spreads_of closed.now)) q result }
     ensures restored { Restored growth.old growth.new groups.old groups.new }
@@ -155,9 +152,7 @@ fn try_where_labels_differ(
     groups: &mut Groups,
     q: Statement,
 ) -> bool
-    requires sizes { variables_of closed.now ≡ growth.old.n }
-    requires asking { Asking (table_of closed.now) growth.old groups.old q }
-    requires told { IsTold closed.now }
+    requires asking { Asking closed.now growth.old groups.old q }
     ensures tried { Tried growth.old.n
         (Consistent growth.old.n (table_of closed.now) groups.old (spreads_of closed.now)) q result }
     ensures restored { Restored growth.old growth.new groups.old groups.new }
@@ -167,9 +162,7 @@ fn try_where_labels_differ(
 
 // Whether closed statements clash with q behind them, tried in a copy of their table.
 pub fn trial(closed: &Closed, growth: &mut Growth, groups: &mut Groups, q: Statement) -> bool
-    requires sizes { variables_of closed.now ≡ growth.old.n }
-    requires asking { Asking (table_of closed.now) growth.old groups.old q }
-    requires told { IsTold closed.now }
+    requires asking { Asking closed.now growth.old groups.old q }
     ensures tried { Tried growth.old.n
         (Standing growth.old.n (table_of closed.now) groups.old (spreads_of closed.now)) q result }
     ensures restored { Restored growth.old growth.new groups.old groups.new }

@@ -1,8 +1,9 @@
 -- The steps of a check of an accepted sheet: what each next call requires, and what all of them leave.
-use Prim.Native.Nat.{ℕ}
+use Prim.Native.Nat.{ℕ, ◌*◌, ◌≤◌}
 use lib.ListN.{length, replicate}
 use mathlib.Core.List.{List, map}
 use mathlib.Core.Path.{◌≡◌, sym, ap, subst, ◌∙◌}
+use Rattle.fields.specs.Limits.{most_variables}
 use Rattle.items.specs.Statements.{AllName}
 use Rattle.sheet.specs.declared.whole.Accepted.{Accepted}
 use Rattle.sheet.specs.Sheets.{sheet_of}
@@ -15,13 +16,13 @@ use Rattle.rules.specs.Verdicts.{verdict_by, verdict_of}
 use Rattle.rules.specs.Replies.{replies_of, reply_number}
 use Rattle.rules.proofs.Derived.{derived_bytes}
 use Rattle.selections.specs.declared.grouped.Groups.{Groups}
-use Rattle.answers.specs.Cells.{Lent}
 use Rattle.answers.specs.Clashes.{ClashTold}
 use Rattle.statements.specs.declared.lists.Lists.{Lists}
 use Rattle.statements.specs.Lists.{Stand}
 use Rattle.closure.specs.declared.closed.Closed.{Closed}
-use Rattle.closure.specs.Making.{Lawful, Made, variables_of, table_of, spreads_of, IsTold}
-use Rattle.closure.proofs.Theorems.{is_derived_table, clash_is, stands, may_be_told, may_try, one_label_each}
+use Rattle.closure.specs.Making.{Lawful, Made, variables_of, table_of, spreads_of}
+use Rattle.closure.proofs.Theorems.{is_derived_table, clash_is, stands, may_be_read, may_try, one_label_each}
+use Rattle.closure.specs.Trials.{Standing}
 use Rattle.replies.specs.Replying.{Held}
 use Rattle.outcomes.specs.declared.outcomes.Outcome.{Outcome}
 use Rattle.outcomes.specs.Closed.{outcome_by}
@@ -50,17 +51,16 @@ module _ {b : List ℕ} {x : Accepted} {facts₀ work replies : List ℕ} (a : A
         rw (accepted_variables b x a.questions.accepted)
         (is_derived_table l.lawful_selections made.grouping made.from sheet_names l.pairs_stand l.selections_stand)
 
-    pub lists_lent : Lent x.header.variables t
-    lists_lent = may_be_told l.lawful_selections made.grouping made.from
+    pub lists_square : (x.header.variables ≤ most_variables) × (length t ≡ x.header.variables * x.header.variables)
+    lists_square = may_be_read l.lawful_selections made.grouping made.from
 
     -- what is known of it
-    module _ {c : Closed} (sizes : variables_of c ≡ x.header.variables) (table : table_of c ≡ t)
-        (selections : c.selections.now ≡ lists.selections.items) (labels : spreads_of c ≡ lists.labels.spreads)
-        (told : IsTold c) where
+    module _ (c : Closed) (sizes : variables_of c ≡ x.header.variables) (table : table_of c ≡ t)
+        (selections : c.selections.now ≡ lists.selections.items) (labels : spreads_of c ≡ lists.labels.spreads) where
       clash_told : ClashTold x.header.variables t lists.labels.spreads c.clash
       clash_told =
           rw (← table, ← labels)
-          (subst (λ n. ClashTold n (table_of c) (spreads_of c) c.clash) sizes told.clash)
+          (subst (λ n. ClashTold n (table_of c) (spreads_of c) c.clash) sizes c.told.first)
 
       clash_is_first : c.clash ≡ clash_of (sheet_of b).stated (sheet_of b).n
       clash_is_first =
@@ -72,9 +72,10 @@ module _ {b : List ℕ} {x : Accepted} {facts₀ work replies : List ℕ} (a : A
       held =
           record {
             standing =
-                rw (table, labels)
+                subst (λ u. Standing x.header.variables u groups (spreads_of c) (sheet_of b).stated) (sym table)
+                (subst (λ u. Standing x.header.variables t groups u (sheet_of b).stated) (sym labels)
                 (stands l.lawful_selections made.grouping made.from sheet_names l.pairs_stand l.selections_stand
-                l.labelled);
+                l.labelled));
             listed = rw selections l.selections_stand;
           }
 
@@ -86,7 +87,6 @@ module _ {b : List ℕ} {x : Accepted} {facts₀ work replies : List ℕ} (a : A
             same_size = rw table same_size;
             selections = rw selections l.lawful_selections;
             trying = rw table (may_try l.lawful_selections made.grouping made.from);
-            told = told;
             single = λ e.
                 rw labels
                 (one_label_each l.lawful_selections made.grouping made.from sheet_names l.pairs_stand

@@ -12,7 +12,7 @@ use Rattle.selections.specs.declared.grouped.Groups.{Groups}
 use Rattle.selections.specs.Listed.{Selections}
 use Rattle.answers.specs.Supports.{SingleLabels}
 use Rattle.closure.specs.declared.closed.Closed.{Closed}
-use Rattle.closure.specs.Making.{variables_of, table_of, spreads_of, IsTold}
+use Rattle.closure.specs.Making.{variables_of, table_of, spreads_of}
 use Rattle.closure.specs.Trials.{Trying}
 use Rattle.replies.specs.Replying.{Asked, Held}
 use Rattle.outcomes.specs.declared.outcomes.Outcome.{Outcome}
@@ -32,7 +32,6 @@ pub record Answering (s : List ℕ) (a : Accepted) (c : Closed) (groups : Groups
   pub same_size : length (table_of c) ≡ length work
   pub selections : Selections a.header.variables c.selections.now
   pub trying : Trying a.header.variables (table_of c) groups
-  pub told : IsTold c
   pub single : c.clash ≡ None → SingleLabels a.header.variables (spreads_of c)
   pub held : Held a.header.variables c groups stated
 

@@ -19,23 +19,16 @@ pub struct Growth<'a> {
 }
 
 impl Growth<'_> {
-    // The table as it is read.
-    pub fn table(&self) -> Table<'_>
-        ensures cells { result.cells.now ≡ self.now.cells.now }
-        ensures n { result.n ≡ self.now.n }
-    {
-        Table {
-            cells: self.cells,
-            n: self.n,
-        }
-    }
-
     // The cell of i and j.
     pub fn look(&self, i: usize, j: usize) -> Kinds
         requires { Cell self.now.n self.now.cells.now i j }
         ensures { result.0 ≡ cell_at self.now.n self.now.cells.now i j }
     {
-        self.table().look(i, j)
+        let table = Table {
+            cells: self.cells,
+            n: self.n,
+        };
+        table.look(i, j)
     }
 
     // No facts at all.

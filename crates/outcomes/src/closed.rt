@@ -1,7 +1,6 @@
 // The outcome that a closed table tells.
 ghost use Rattle.std.specs.Prelude.{◌≡◌};
 ghost use Rattle.rules.specs.Tables.{facts};
-ghost use Rattle.answers.specs.Cells.{Lent};
 ghost use Rattle.outcomes.specs.Closed.{outcome_by};
 
 use crate::outcomes::Outcome;
@@ -12,7 +11,6 @@ use table::Table;
 // How many facts the table has of each kind, or the pair that clashes in it.
 #[tactic(auto, using(crate::proofs::Counted::few_facts))]
 pub fn outcome_of(verdict: Verdict, closed: &Table) -> Outcome
-    requires { Lent closed.now.n closed.now.cells.now }
     ensures { result ≡ outcome_by closed.now.n (facts closed.now.n closed.now.cells.now) verdict }
 {
     match verdict {

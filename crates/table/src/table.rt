@@ -1,5 +1,5 @@
 // The fact table: a cell for two variables, in bytes that are lent. Only this file knows where a cell stands.
-ghost use Rattle.std.specs.Prelude.{◌+◌, ◌*◌, ◌<◌, ◌≤◌, ◌≡◌};
+ghost use Rattle.std.specs.Prelude.{◌+◌, ◌*◌, ◌<◌, ◌≤◌, length, ◌≡◌};
 ghost use Rattle.fields.specs.Limits.{most_variables};
 ghost use Rattle.rules.specs.Tables.{cell_at};
 ghost use Rattle.table.specs.Cells.{Cell, with_cell};
@@ -11,6 +11,8 @@ use crate::cells::Kinds;
 pub struct Table<'a> {
     pub cells: &'a [u8],
     pub n: usize,
+    pub ghost few: { n ≤ most_variables },
+    pub ghost square: { length cells.now ≡ n * n },
 }
 
 // Where the cell of i and j stands.
@@ -25,7 +27,7 @@ impl Table<'_> {
     // The cell of i and j.
     #[tactic(auto, unfolding(rules::specs::Tables::cell_at))]
     pub fn look(&self, i: usize, j: usize) -> Kinds
-        requires { Cell self.now.n self.now.cells.now i j }
+        requires { (i < self.now.n) × (j < self.now.n) }
         ensures { result.0 ≡ cell_at self.now.n self.now.cells.now i j }
     {
         let at = place(self.n, i, j);

@@ -16,4 +16,4 @@ returns c =
     find_from_yields_List test _ _ c.find.result c.find.ensures.ran (YieldsList-from_range 0 t.n t.n refl (omega arith))
     (λ x b q k. search (rules, tests)) in
     let mapped : c.map.result ≡ option_map (clash_between c.args.i) (option_map (λ j. j) c.find.result) = search rules in
-    row_told c.requires.1 (mapped ∙ ap (option_map (clash_between c.args.i)) found)
+    row_told c.requires (mapped ∙ ap (option_map (clash_between c.args.i)) found)

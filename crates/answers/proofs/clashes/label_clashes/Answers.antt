@@ -14,5 +14,5 @@ returns c =
           any_from_yields_List (met_at (facts t.n t.cells.now) c.args.labels.now.spreads c.args.i c.args.a.0) _ _ _
           c.any.ensures.ran (YieldsList-from_range 0 t.n t.n refl (omega arith)) (λ x b q k. search (rules, tests))
           ∙ met_sought (facts t.n t.cells.now) stand c.args.i c.args.a.0
-          ∙ label_clash _ st names _ _ c.requires.1 _ e clear;
+          ∙ label_clash _ st names _ _ c.requires _ e clear;
     }

@@ -20,7 +20,7 @@ sum-requires-clause-fits c =
       arith,
       rows_counted t.n t.n r c.args.kind,
       count_bound t.n r c.args.kind,
-      mul-le-mul c.requires.few c.requires.few,
+      mul-le-mul t.few t.few,
     ))
 
 pub returns : goal.returns

@@ -10,12 +10,12 @@ returns-then-is_some-clause-tried c =
     let closed = c.args.closed.now in
     rw c.if-is_some.true
     (clash_stays
-    (subst (λ n. ClashTold n (table_of closed) (spreads_of closed) closed.clash) c.requires.sizes c.requires.told.clash)
+    (subst (λ n. ClashTold n (table_of closed) (spreads_of closed) closed.clash) c.requires.asking.copy.sizes closed.told.first)
     _ c.requires.asking.names (cc))
 
 pub returns-else-is_some-clause-tried : goal.returns-else-is_some-clause-tried
 returns-else-is_some-clause-tried c =
     let closed = c.args.closed.now in
     all_told
-    (subst (λ n. ClashTold n (table_of closed) (spreads_of closed) closed.clash) c.requires.sizes c.requires.told.clash)
+    (subst (λ n. ClashTold n (table_of closed) (spreads_of closed) closed.clash) c.requires.asking.copy.sizes closed.told.first)
     _ c.requires.asking.names (cc) c.try_where_labels_differ.ensures.tried

@@ -18,4 +18,4 @@ returns-in-Selection-clause-tried c =
 
 pub returns-in-Labelling-clause-tried : goal.returns-in-Labelling-clause-tried
 returns-in-Labelling-clause-tried c =
-    label_told _ _ c.requires.sizes c.in-Labelling.is c.index.ensures c.label_clashes.ensures
+    label_told _ _ c.requires.asking.copy.sizes c.in-Labelling.is c.index.ensures c.label_clashes.ensures

@@ -9,15 +9,15 @@ pub answer-requires : goal.answer-requires
 answer-requires c =
     let known = c.new-closed.ensures in
     lists_answering c.requires c.gather-lists.ensures (rw c.from-n.ensures at c.close.ensures.made)
-    (ap (λ (t : Table). t.n) known.table ∙ c.from-n.ensures)
+    c.new-closed.result (ap (λ (t : Table). t.n) known.table ∙ c.from-n.ensures)
     (ap (λ (t : Table). t.cells.now) known.table) (known.selections ∙ c.as_slice.ensures.value)
-    (ap (λ (x : Labels). x.spreads) known.labels) known.told (omega arith)
+    (ap (λ (x : Labels). x.spreads) known.labels) (omega arith)
 
 pub returns : goal.returns
 returns c =
     let known = c.new-closed.ensures in
     lists_filled c.requires c.gather-lists.ensures (rw c.from-n.ensures at c.close.ensures.made)
-    (ap (λ (t : Table). t.n) known.table ∙ c.from-n.ensures)
+    c.new-closed.result (ap (λ (t : Table). t.n) known.table ∙ c.from-n.ensures)
     (ap (λ (t : Table). t.cells.now) known.table) (known.selections ∙ c.as_slice.ensures.value)
-    (ap (λ (x : Labels). x.spreads) known.labels) known.told c.from.ensures (rw c.from-n.ensures at c.outcome_of.ensures)
+    (ap (λ (x : Labels). x.spreads) known.labels) c.from.ensures (rw c.from-n.ensures at c.outcome_of.ensures)
     c.answer.ensures.cleared c.answer.ensures.replied
