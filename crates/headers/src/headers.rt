@@ -69,7 +69,7 @@ impl Header {
     }
 }
 
-// The bits of a header's map, each for a count.
+// The bits of a header's map, each for a count. The map stays the format's byte: has_bit is promised of any byte.
 const VARIABLES: u8 = 1;
 
 const RECORDS: u8 = 2;
@@ -81,7 +81,7 @@ const QUESTIONS: u8 = 4;
 fn is_bad_header_map(map: u8) -> bool
     ensures { result ≡ bad_header_map map }
 {
-    !has_bit(VARIABLES, map) || 7 < map
+    !has_bit(VARIABLES, map) || VARIABLES | RECORDS | QUESTIONS < map
 }
 
 // Row 3 of the refusals.

@@ -47,7 +47,7 @@ pub struct Item {
     pub label: Option<Label>,
 }
 
-// The bits of an item's map, each for a field behind the subject.
+// An item's map, a bit for each field behind the subject. It stays the format's byte: has_bit is promised of any byte.
 const TARGET: u8 = 1;
 
 const PARTNER: u8 = 2;
@@ -69,8 +69,7 @@ fn defined_bits(place: Place) -> u8
     ensures { result ≡ defined_bits place }
 {
     match place {
-        Place::Record => 15,
-        Place::Question => 15,
+        Place::Record | Place::Question => TARGET | PARTNER | EDGE | LABEL,
     }
 }
 
