@@ -1,6 +1,6 @@
 // One field at a cursor: looked for whole, then judged, before the next.
 ghost use Rattle.std.specs.Prelude.{◌≡◌, IsTrue};
-ghost use Rattle.fields.specs.Fields.{word, byte_field, word_field, variable_field, ReadIf};
+ghost use Rattle.fields.specs.Fields.{byte_field, word_field, variable_field, ReadIf};
 ghost use Rattle.fields.specs.Refusals.{cut};
 ghost use Rattle.fields.specs.Tests.{has};
 
@@ -40,14 +40,6 @@ pub fn has_bit(value: u8, map: u8) -> bool
     value != 0 && map / value % 2 == 1
 }
 
-// Two bytes, the high one first.
-#[tactic(auto, unfolding(crate::specs::Fields::word))]
-pub fn word_of(high: u8, low: u8) -> u16
-    ensures { result ≡ word high low }
-{
-    u16::from_be_bytes([high, low])
-}
-
 // Refusal 1.
 pub fn cut_off(sheet: &[u8]) -> Refusal
     ensures { result ≡ cut sheet.now }
@@ -73,15 +65,15 @@ pub fn read_byte(sheet: &[u8], from: Cursor) -> Read<u8>
     })
 }
 
-// A field of two bytes.
-#[tactic(auto, unfolding(crate::specs::Fields::word_field, crate::specs::Fields::byte_field, crate::specs::Refusals::ends, crate::specs::Tests::less, crate::specs::Tests::pick))]
+// A field of two bytes, the high one first.
+#[tactic(auto, unfolding(crate::specs::Fields::word_field, crate::specs::Fields::word, crate::specs::Fields::byte_field, crate::specs::Refusals::ends, crate::specs::Tests::less, crate::specs::Tests::pick))]
 pub fn read_word(sheet: &[u8], from: Cursor) -> Read<u16>
     ensures { result ≡ word_field sheet.now from }
 {
     let high = read_byte(sheet, from)?;
     let low = read_byte(sheet, high.next)?;
     Ok(Field {
-        value: word_of(high.value, low.value),
+        value: u16::from_be_bytes([high.value, low.value]),
         next: low.next,
     })
 }

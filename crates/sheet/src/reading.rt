@@ -42,7 +42,7 @@ impl<'a> Reader<'a> {
     }
 
     // Goes on behind what was read, or stays where it was refused.
-    fn pass<T: Copy>(&mut self, read: Read<T>) -> Read<T>
+    fn pass<T>(&mut self, read: Read<T>) -> Read<T>
         ensures { (result ≡ read) × (self.new ≡ moved self.old (end_of read self.old.next)) }
     {
         self.next = end_of(&read, self.next);

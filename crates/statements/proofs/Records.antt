@@ -10,13 +10,13 @@ use Rattle.fields.specs.declared.numbers.Cursor.{Cursor}
 use Rattle.fields.specs.declared.refusals.Place.{Place}
 use Rattle.fields.specs.declared.refusals.Refusal.{Refusal}
 use Rattle.fields.specs.Limits.{most_variables, most_items}
+use Rattle.headers.specs.declared.headers.Header.{Header}
 use Rattle.items.specs.declared.items.Item.{Item}
 use Rattle.items.specs.declared.items.Statement.{Statement}
 use Rattle.items.specs.Items.{item_at, items_end, items_of}
 use Rattle.items.specs.Statements.{Names, AllName, statements_of}
 use Rattle.items.proofs.Runs.{run_on, run_reads, items_over, items_on}
-use Rattle.sheet.specs.declared.whole.Accepted.{Accepted}
-use Rattle.sheet.specs.Sheets.{all_statements, sheet_of, sheet_at}
+use Rattle.sheet.specs.Sheets.{accepted, all_statements, sheet_of, sheet_at}
 use Rattle.sheet.proofs.Theorems.{accepted_read, accepted_sheet, accepted_stated}
 use Rattle.rules.proofs.Lists.{all_split, all_name_more}
 use Rattle.selections.proofs.Stands.{no_selections, no_selections_stand}
@@ -39,18 +39,18 @@ pub record Gathers (s : List ℕ) (n left : ℕ) (cursor : Cursor) (x : Lists) :
   pub selections_room : length x.selections.items + left ≤ most_items
 
 -- before the first record
-pub gathers_start : (s : List ℕ) (a : Accepted) (x : Lists) → x.pairs.items ≡ [] → x.selections.items ≡ []
-    → x.labels.spreads ≡ replicate most_variables Spread.Nothing → Gathering s a
-    → Gathers s a.header.variables a.header.records a.header.first x
+pub gathers_start : (s : List ℕ) (h : Header) (x : Lists) → x.pairs.items ≡ [] → x.selections.items ≡ []
+    → x.labels.spreads ≡ replicate most_variables Spread.Nothing → Gathering s h
+    → Gathers s h.variables h.records h.first x
 unfolding sheet_at
-gathers_start s a x no_pair no_selection no_label g =
-    let read = accepted_read s a g.accepted in
-    let is = accepted_sheet s a g.accepted in
+gathers_start s h x no_pair no_selection no_label g =
+    let read = accepted_read s (accepted h g.asked) g.accepted in
+    let is = accepted_sheet s (accepted h g.asked) g.accepted in
     let few = read.heads.few in
     let records = read.heads.records in
     record {
       few = few;
-      named = accepted_stated s a g.accepted;
+      named = accepted_stated s (accepted h g.asked) g.accepted;
       done = [];
       stand =
           record {
@@ -61,7 +61,7 @@ gathers_start s a x no_pair no_selection no_label g =
             labelled = rw no_label (no_labels _ few);
           };
       rest = ap (λ y. y.stated) is;
-      end = a.asked;
+      end = g.asked;
       readable = read.records_end;
       pairs_fit = rw no_pair (omega (arith, records));
       selections_room = rw no_selection (omega (arith, records));

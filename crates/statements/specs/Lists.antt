@@ -1,11 +1,12 @@
 -- The lists in which statements stand: pairs, selections and labels.
 use Rattle.std.specs.Prelude.{ℕ, ◌+◌, ◌*◌, ◌≤◌, length, List, [], ◌∷◌, ◌++◌, Ok, ◌≡◌}
 use Rattle.std.specs.Prelude.{Option, option_map, unwrap_or}
+use Rattle.fields.specs.declared.numbers.Cursor.{Cursor}
 use Rattle.fields.specs.Limits.{most_variables, most_items}
+use Rattle.headers.specs.declared.headers.Header.{Header}
 use Rattle.items.specs.declared.items.Statement.{Statement}
 use Rattle.items.specs.Statements.{AllName}
-use Rattle.sheet.specs.declared.whole.Accepted.{Accepted}
-use Rattle.sheet.specs.Sheets.{read_sheet}
+use Rattle.sheet.specs.Sheets.{accepted, read_sheet}
 use Rattle.selections.specs.Listed.{selection_of, Selections, Listed}
 use Rattle.selections.specs.Stands.{SelectionsStand}
 use Rattle.labels.specs.Labels.{LabelsStand, spreads_with}
@@ -69,5 +70,6 @@ pub record Put (added : List Statement) (pairs selections : ℕ) (x y : Lists) :
   pub more_selections : length y.selections.items ≤ length x.selections.items + selections
 
 -- an accepted sheet
-pub record Gathering (s : List ℕ) (a : Accepted) : Type 0 where
-  pub accepted : read_sheet s ≡ Ok a
+pub record Gathering (s : List ℕ) (h : Header) : Type 0 where
+  pub asked : Cursor
+  pub accepted : read_sheet s ≡ Ok (accepted h asked)

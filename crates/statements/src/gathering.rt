@@ -3,15 +3,14 @@ ghost use Rattle.sheet.specs.Sheets.{sheet_of};
 ghost use Rattle.statements.specs.Lists.{Stand, Gathering};
 
 use crate::lists::Lists;
+use headers::Header;
 use items::read_record;
-use sheet::Accepted;
 
 // What the records of an accepted sheet state.
-pub fn gather(sheet: &[u8], accepted: Accepted) -> Lists
-    requires { Gathering sheet.now accepted }
-    ensures { Stand accepted.header.variables (sheet_of sheet.now).stated result }
+pub fn gather(sheet: &[u8], header: Header) -> Lists
+    requires { Gathering sheet.now header }
+    ensures { Stand header.variables (sheet_of sheet.now).stated result }
 {
-    let header = accepted.header;
     let mut lists = Lists::empty();
     let mut cursor = header.first;
     for _ in 0..header.records {

@@ -18,8 +18,8 @@ fn variables(out: &mut impl Write, sheet: &[u8], n: u8) -> Result<()> {
 }
 
 // The questions, each with the reply to it; a byte that is no reply would tell nothing.
-fn questions(out: &mut impl Write, count: usize, replies: &[u8]) -> Result<()> {
-    for (k, byte) in replies.iter().take(count).enumerate() {
+fn questions(out: &mut impl Write, replies: &[u8]) -> Result<()> {
+    for (k, byte) in replies.iter().enumerate() {
         let reply = Reply::try_from(*byte).unwrap_or(Reply::Open);
         writeln!(out, "ask {k} {reply}")?;
     }
@@ -39,7 +39,7 @@ pub fn print(out: &mut impl Write, sheet: &[u8], outcome: Outcome, replies: &[u8
             let n = header.variable_count();
             writeln!(out, "consistent {n} {orderings} {compatibilities}")?;
             variables(out, sheet, n)?;
-            questions(out, header.reply_count(), replies)
+            questions(out, &replies[..header.reply_count().min(replies.len())])
         }
     }
 }

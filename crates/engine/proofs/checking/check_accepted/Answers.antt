@@ -1,9 +1,12 @@
--- The table, what is known of it, then the replies.
+-- What is stated, the table, what is known of it, then the replies.
 use Rattle.std.proofs.Common.{ap, ◌∙◌, arith}
 use Rattle.table.specs.declared.table.Table.{Table}
 use Rattle.labels.specs.declared.labels.Labels.{Labels}
 use Rattle.engine.proofs.Steps.{lists_answering, lists_filled}
 use Rattle.engine.proofs.checking.check_accepted.Goals as goal
+
+pub gather-lists-requires : goal.gather-lists-requires
+gather-lists-requires c = record { asked = c.args.accepted.asked; accepted = c.requires.questions.accepted }
 
 pub answer-requires : goal.answer-requires
 answer-requires c =

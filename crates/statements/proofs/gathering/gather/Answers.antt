@@ -7,7 +7,7 @@ use Rattle.statements.proofs.gathering.gather.Goals as goal
 pub loop-init : goal.loop-init
 loop-init c =
     let made = c.empty-lists.ensures in
-    let none_read : c.args.accepted.header.records - 0 ≡ c.args.accepted.header.records = omega arith in
+    let none_read : c.args.header.records - 0 ≡ c.args.header.records = omega arith in
     rw none_read (gathers_start _ _ c.empty-lists.result made.pairs made.selections made.labels c.requires)
 
 pub put_record-requires : goal.put_record-requires
@@ -16,7 +16,7 @@ put_record-requires c =
 
 pub loop-preserved : goal.loop-preserved
 loop-preserved c =
-    rw (sub-add-eq c.args.accepted.header.records c.loop.counter 1)
+    rw (sub-add-eq c.args.header.records c.loop.counter 1)
     (gathers_next c.loop.invariant (omega (arith, c.loop-test.true)) (sym c.in-Ok.ensures) c.put_record.ensures)
 
 pub returns-in_default : goal.returns-in_default

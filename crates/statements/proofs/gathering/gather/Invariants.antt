@@ -5,4 +5,4 @@ use Rattle.statements.proofs.gathering.gather.Given as goal
 
 abbrev pub invariant-loop : goal.invariant-loop
 invariant-loop l =
-    Gathers l.sheet l.header.variables (l.fn.accepted.header.records - l.counter) l.cursor l.lists
+    Gathers l.sheet l.fn.header.variables (l.fn.header.records - l.counter) l.cursor l.lists
