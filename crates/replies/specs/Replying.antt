@@ -13,13 +13,12 @@ use Rattle.selections.specs.Listed.{Selections, Listed}
 use Rattle.selections.specs.Stands.{SelectionsStand}
 use Rattle.answers.specs.Supports.{SingleLabels}
 use Rattle.closure.specs.declared.closed.Closed.{Closed}
-use Rattle.closure.specs.Trials.{Trying, Standing}
-use Rattle.closure.specs.Making.{variables_of, table_of, spreads_of}
+use Rattle.closure.specs.Trials.{IsCopy, Trying, Standing}
+use Rattle.closure.specs.Making.{table_of, spreads_of}
 
 -- closed statements that do not clash, a growth with a copy of their table, and their groups
 pub record Replying (c : Closed) (g : Growth) (groups : Groups) : Type 0 where
-  pub sizes : variables_of c ≡ g.n
-  pub copied : g.cells.now ≡ table_of c
+  pub copy : IsCopy c g
   pub trying : Trying g.n (table_of c) groups
   pub consistent : c.clash ≡ None
   pub selections : Selections g.n c.selections.now
