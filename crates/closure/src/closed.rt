@@ -20,6 +20,7 @@ pub struct Closed<'a> {
     pub spread: Spread,
     // the pair that clashes, if there is one
     pub clash: Option<Clash>,
+    // what is told of them is so
     pub ghost told: { IsTold table.now.n table.now.cells.now labels.now.spreads clash spread } by { Prim.hlevel props },
 }
 

@@ -1,9 +1,8 @@
 -- The steps of a check of an accepted sheet: what each next call requires, and what all of them leave.
-use Prim.Native.Nat.{ℕ, ◌*◌, ◌≤◌}
+use Prim.Native.Nat.{ℕ}
 use lib.ListN.{length, replicate}
 use mathlib.Core.List.{List, map}
 use mathlib.Core.Path.{◌≡◌, sym, ap, subst, ◌∙◌}
-use Rattle.fields.specs.Limits.{most_variables}
 use Rattle.items.specs.Statements.{AllName}
 use Rattle.sheet.specs.declared.whole.Accepted.{Accepted}
 use Rattle.sheet.specs.Sheets.{sheet_of}
@@ -21,7 +20,7 @@ use Rattle.statements.specs.declared.lists.Lists.{Lists}
 use Rattle.statements.specs.Lists.{Stand}
 use Rattle.closure.specs.declared.closed.Closed.{Closed}
 use Rattle.closure.specs.Making.{Lawful, Made, variables_of, table_of, spreads_of}
-use Rattle.closure.proofs.Theorems.{is_derived_table, clash_is, stands, may_be_read, may_try, one_label_each}
+use Rattle.closure.proofs.Theorems.{is_derived_table, clash_is, stands, may_try, one_label_each}
 use Rattle.closure.specs.Trials.{Standing}
 use Rattle.replies.specs.Replying.{Held}
 use Rattle.outcomes.specs.declared.outcomes.Outcome.{Outcome}
@@ -50,9 +49,6 @@ module _ {b : List ℕ} {x : Accepted} {facts₀ work replies : List ℕ} (a : A
     table_is =
         rw (accepted_variables b x a.questions.accepted)
         (is_derived_table l.lawful_selections made.grouping made.from sheet_names l.pairs_stand l.selections_stand)
-
-    pub lists_square : (x.header.variables ≤ most_variables) × (length t ≡ x.header.variables * x.header.variables)
-    lists_square = may_be_read l.lawful_selections made.grouping made.from
 
     -- what is known of it
     module _ (c : Closed) (sizes : variables_of c ≡ x.header.variables) (table : table_of c ≡ t)

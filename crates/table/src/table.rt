@@ -11,6 +11,7 @@ use crate::cells::Kinds;
 pub struct Table<'a> {
     pub cells: &'a [u8],
     pub n: usize,
+    // there are not too many, and each two have a cell
     pub ghost few: { n ≤ most_variables },
     pub ghost square: { length cells.now ≡ n * n },
 }
