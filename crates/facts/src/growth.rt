@@ -11,6 +11,7 @@ use rules::Kind;
 use table::{Kinds, NEITHER, Queue, Table, push, store};
 
 // The bytes of a table of n variables, and the pairs whose cells changed.
+// No fact of its own that the bytes are square: they change, and each change would have to show it again; `Cell` asks it.
 #[derive(Drop)]
 pub struct Growth<'a> {
     pub cells: &'a mut [u8],
