@@ -9,7 +9,7 @@ use fields::{MOST_VARIABLES, Variable};
 // A place for each fact of both kinds, and for the pairs of both kinds that a selection on trial queues.
 pub const ROOM: usize = 2 * MOST_VARIABLES * MOST_VARIABLES + 2 * MOST_VARIABLES;
 
-// A pair whose cell changed. Not a Clash: an entry is any pair whose cell changed.
+// Not a Clash: an entry is any pair whose cell changed.
 #[derive(Clone, Copy, Default)]
 pub struct Entry {
     pub first: Variable,
