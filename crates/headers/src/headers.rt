@@ -138,7 +138,7 @@ fn read_count(sheet: &[u8], from: Cursor) -> Read<u16>
     Ok(count)
 }
 
-// A count that is there only where its bit stands.
+// A count that is there only where its bit stands, which is a flag as at `read_if`.
 fn read_count_if(stands: bool, sheet: &[u8], from: Cursor) -> Read<Option<u16>>
     ensures { result ≡ count_if stands sheet.now from }
 {

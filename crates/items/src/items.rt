@@ -121,7 +121,7 @@ fn read_label(sheet: &[u8], from: Cursor) -> Read<Label>
     Ok(read_word(sheet, from)?.map(Label))
 }
 
-// A variable that is there only where its bit stands.
+// A variable that is there only where its bit stands, which is a flag as at `read_if`.
 fn read_variable_if(stands: bool, sheet: &[u8], n: u8, from: Cursor) -> Read<Option<Variable>>
     ensures { result ≡ field_if stands (variable_field sheet.now n from) from }
 {
