@@ -1,7 +1,8 @@
 // The header: a map byte, then by rising bit the fields whose bit stands.
 ghost use Rattle.std.specs.Prelude.{◌≡◌};
 ghost use Rattle.fields.specs.Refusals.{bad_header_map, bad_variable_count};
-ghost use Rattle.headers.specs.Headers.{header_map, variable_count, count_field, header_of, table_size, reply_count};
+ghost use Rattle.headers.specs.Headers.{header_map, variable_count, count_field, count_if, header_of};
+ghost use Rattle.headers.specs.Headers.{table_size, reply_count};
 
 use fields::{
     Cursor, Fault, MOST_ITEMS, MOST_VARIABLES, Read, Refusal, has_bit, read_byte, read_if,
@@ -137,6 +138,13 @@ fn read_count(sheet: &[u8], from: Cursor) -> Read<u16>
     Ok(count)
 }
 
+// A count that is there only where its bit stands, which is a flag as at `read_if`.
+fn read_count_if(stands: bool, sheet: &[u8], from: Cursor) -> Read<Option<u16>>
+    ensures { result ≡ count_if stands sheet.now from }
+{
+    read_if(stands, from, |at| read_count(sheet, at))
+}
+
 // The header alone: what follows it is not judged.
 #[tactic(auto, unfolding(crate::specs::Headers::header_of))]
 pub fn read_header(sheet: &[u8]) -> Result<Header, Refusal>
@@ -144,16 +152,8 @@ pub fn read_header(sheet: &[u8]) -> Result<Header, Refusal>
 {
     let map = read_header_map(sheet)?;
     let variables = read_variable_count(sheet, map.next)?;
-    let records = read_if(
-        has_bit(RECORDS, map.value),
-        variables.next,
-        |at| read_count(sheet, at),
-    )?;
-    let questions = read_if(
-        has_bit(QUESTIONS, map.value),
-        records.next,
-        |at| read_count(sheet, at),
-    )?;
+    let records = read_count_if(has_bit(RECORDS, map.value), sheet, variables.next)?;
+    let questions = read_count_if(has_bit(QUESTIONS, map.value), sheet, records.next)?;
     Ok(Header {
         map: map.value,
         variables: variables.value,

@@ -1,5 +1,6 @@
 // Records and questions: one reader of an item, told its place.
 ghost use Rattle.std.specs.Prelude.{◌≡◌};
+ghost use Rattle.fields.specs.Fields.{variable_field, field_if};
 ghost use Rattle.fields.specs.Refusals.{defined_bits, several_bits, bad_item_map};
 ghost use Rattle.items.specs.Items.{map_field, edge_field, label_field, fields_at, item_at, question_at, items_end};
 ghost use Rattle.items.specs.Questions.{question_of};
@@ -120,18 +121,21 @@ fn read_label(sheet: &[u8], from: Cursor) -> Read<Label>
     Ok(read_word(sheet, from)?.map(Label))
 }
 
+// A variable that is there only where its bit stands, which is a flag as at `read_if`.
+fn read_variable_if(stands: bool, sheet: &[u8], n: u8, from: Cursor) -> Read<Option<Variable>>
+    ensures { result ≡ field_if stands (variable_field sheet.now n from) from }
+{
+    read_if(stands, from, |at| read_variable(sheet, n, at))
+}
+
 // The fields behind the subject, by rising bit.
 // Sheet, count and cursor are no struct: the header gives the count, map and label need none, a read moves the cursor.
 #[tactic(auto, unfolding(crate::specs::Items::fields_at))]
 fn read_fields(sheet: &[u8], n: u8, map: u8, subject: Variable, from: Cursor) -> Read<Item>
     ensures { result ≡ fields_at sheet.now n map subject from }
 {
-    let target = read_if(has_bit(TARGET, map), from, |at| read_variable(sheet, n, at))?;
-    let partner = read_if(
-        has_bit(PARTNER, map),
-        target.next,
-        |at| read_variable(sheet, n, at),
-    )?;
+    let target = read_variable_if(has_bit(TARGET, map), sheet, n, from)?;
+    let partner = read_variable_if(has_bit(PARTNER, map), sheet, n, target.next)?;
     let edge = read_if(
         has_bit(EDGE, map),
         partner.next,
