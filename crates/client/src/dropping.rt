@@ -29,6 +29,7 @@ pub fn may_drop(sheet: &[u8], question: u32) -> bool
     let mut facts = [0u8; LARGEST_TABLE];
     let mut work = [0u8; LARGEST_TABLE];
     let mut replies = [0u8; MOST_REPLIES];
+    // no let-else: each outcome is named, as a test may be left out for none of the others
     match check(sheet, &mut facts, &mut work, &mut replies) {
         Outcome::Consistent(_, _) => is_answered_always(sheet, &replies, question),
         Outcome::Clash(_, _) => false,
