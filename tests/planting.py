@@ -16,20 +16,26 @@ def family(edit):
     return dict(fields(edit)).get("family")
 
 
-def plant(edit, folder):
-    """Makes the replacements of an edit in a folder: what stood in each file before. Fails with nothing replaced."""
-    before, after, path, old = {}, {}, None, None
+def planted(edit, folder):
+    """The texts of the files that an edit changes in a folder, edited, by their paths."""
+    texts, path, old = {}, None, None
     for word, rest in fields(edit):
         if word == "file":
             path = folder / rest
         elif word == "old":
             old = rest
         elif word == "new":
-            before.setdefault(path, path.read_text())
-            text = after.get(path, before[path])
+            text = texts[path] if path in texts else path.read_text()
             if text.count(old) != 1:
                 raise ValueError(f"{edit.name}: the old text stands {text.count(old)} times in {path.name}")
-            after[path] = text.replace(old, rest)
-    for path, text in after.items():
+            texts[path] = text.replace(old, rest)
+    return texts
+
+
+def plant(edit, folder):
+    """Makes the replacements of an edit in a folder: what stood in each file before. Fails with nothing replaced."""
+    texts = planted(edit, folder)
+    before = {path: path.read_text() for path in texts}
+    for path, text in texts.items():
         path.write_text(text)
     return before

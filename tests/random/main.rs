@@ -23,16 +23,19 @@ use seeds::Line;
 use std::process::ExitCode;
 use tally::Tally;
 
-const THREADS: usize = 2;
-
-/// Compares every so-many-th draw of each line, and stops where something differs: a tally for each line.
-fn compare_share(program: &str, lines: &[Line], share: usize) -> Result<Vec<Tally>, String> {
-    lines.iter().map(|line| compare_line(program, line, share)).collect()
+/// As many as there are processors: what is drawn for a sheet hangs on its seed alone.
+fn threads() -> usize {
+    std::thread::available_parallelism().map_or(2, usize::from)
 }
 
-fn compare_line(program: &str, line: &Line, share: usize) -> Result<Tally, String> {
+/// Compares every so-many-th draw of each line, and stops where something differs: a tally for each line.
+fn compare_share(program: &str, lines: &[Line], share: usize, of: usize) -> Result<Vec<Tally>, String> {
+    lines.iter().map(|line| compare_line(program, line, share, of)).collect()
+}
+
+fn compare_line(program: &str, line: &Line, share: usize, of: usize) -> Result<Tally, String> {
     let mut tally = Tally::default();
-    for draw in (share as u64..line.count).step_by(THREADS) {
+    for draw in (share as u64..line.count).step_by(of) {
         let mut numbers = Numbers::of(line.seed, draw);
         for (k, case) in cases::cases(&line.family, &mut numbers).iter().enumerate() {
             let found = compare::compare(program, case, &mut numbers, &mut tally);
@@ -44,9 +47,10 @@ fn compare_line(program: &str, line: &Line, share: usize) -> Result<Tally, Strin
 }
 
 fn compare_all(program: &str, lines: &[Line]) -> Result<Vec<Tally>, String> {
+    let of = threads();
     let shares: Vec<Result<Vec<Tally>, String>> = std::thread::scope(|scope| {
         let started: Vec<_> =
-            (0..THREADS).map(|share| scope.spawn(move || compare_share(program, lines, share))).collect();
+            (0..of).map(|share| scope.spawn(move || compare_share(program, lines, share, of))).collect();
         started.into_iter().map(|thread| thread.join().expect("a thread that ends")).collect()
     });
     let mut all: Vec<Tally> = lines.iter().map(|_| Tally::default()).collect();

@@ -3,6 +3,19 @@ use crate::{checks, lengths, readings};
 use std::alloc::Global;
 use std::io::{Result, Write};
 
+// A word, behind a space.
+pub fn write_word(out: &mut impl Write, word: &str) -> Result<()> {
+    write!(out, " {word}")
+}
+
+// Numbers, each behind a space. All that is shown goes through these two: each further format costs seconds of proof.
+pub fn write_numbers(out: &mut impl Write, numbers: &[usize]) -> Result<()> {
+    for number in numbers {
+        write!(out, " {number}")?;
+    }
+    Ok(())
+}
+
 // One line of the text.
 #[derive(Clone, Copy)]
 pub struct Case<'a> {

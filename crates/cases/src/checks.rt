@@ -1,18 +1,21 @@
 // How a sheet is checked, with lent buffers that are long enough or one byte short.
-use crate::case::Case;
+use crate::case::{Case, write_numbers, write_word};
 use engine::{LARGEST_TABLE, MOST_REPLIES, Outcome};
 use std::alloc::Global;
 use std::io::{Result, Write};
 
 // No Display: treecheck's lines are the outcome's text, and this is the text of the cases alone.
 fn write_outcome(out: &mut impl Write, outcome: Outcome) -> Result<()> {
-    match outcome {
-        Outcome::Consistent(orderings, compatibilities) => {
-            write!(out, " consistent {orderings} {compatibilities}")
-        }
-        Outcome::Clash(i, j) => write!(out, " clash {} {}", i.0, j.0),
-        Outcome::Refused(fault, at) => write!(out, " refused {} {at}", u8::from(fault)),
-    }
+    let (word, numbers) = match outcome {
+        Outcome::Consistent(orderings, compatibilities) => (
+            "consistent",
+            [usize::from(orderings), usize::from(compatibilities)],
+        ),
+        Outcome::Clash(i, j) => ("clash", [i.index(), j.index()]),
+        Outcome::Refused(fault, at) => ("refused", [usize::from(u8::from(fault)), usize::from(at)]),
+    };
+    write_word(out, word)?;
+    write_numbers(out, &numbers)
 }
 
 // The outcome with two tables and a reply buffer of so many bytes.

@@ -13,17 +13,16 @@ pub fn show_cuts(out: &mut impl Write, case: &Case) -> Result<()> {
     Ok(())
 }
 
-// The longest sheet, 1,024 records with all fields and 1,024 questions i[f]j, and one byte more.
-fn longest_and_one(alloc: Global) -> Result<Vec<u8>> {
-    let mut bytes = Vec::from_array(alloc, [7, 128, 4, 0, 4, 0])?;
-    for _ in 0..1024 {
-        bytes.extend_from_slice(&[15, 0, 0, 0, 0, 0, 0, 0, 0])?;
+// The longest sheet, 1,024 records with all fields and 1,024 questions i[f]j, and one byte more: of all bytes behind
+// the header only the maps are not 0.
+fn longest_and_one() -> [u8; LONGEST_SHEET + 1] {
+    let mut bytes = [0; LONGEST_SHEET + 1];
+    bytes[..6].copy_from_slice(&[7, 128, 4, 0, 4, 0]);
+    for k in 0..1024 {
+        bytes[6 + 9 * k] = 15;
+        bytes[6 + 9 * 1024 + 5 * k] = 4;
     }
-    for _ in 0..1024 {
-        bytes.extend_from_slice(&[4, 0, 0, 0, 0])?;
-    }
-    bytes.push(0)?;
-    Ok(bytes)
+    bytes
 }
 
 // How the longest sheet, one byte less and one more are read.
@@ -35,9 +34,9 @@ fn show_readings(out: &mut impl Write, more: &Case) -> Result<()> {
 
 // The first and the last are checked too.
 pub fn show_longest(out: &mut impl Write, alloc: Global, case: &Case) -> Result<()> {
-    let bytes = longest_and_one(alloc)?;
+    let bytes = longest_and_one();
     let more = Case {
-        bytes: bytes.as_slice(),
+        bytes: &bytes,
         ..*case
     };
     show_readings(out, &more)?;

@@ -1,36 +1,39 @@
 // How a sheet is read, behind the name of its case.
-use crate::case::Case;
+use crate::case::{Case, write_numbers, write_word};
 use sheet::{Accepted, Header, Refusal};
 use std::io::{Result, Write};
 
 fn refused(out: &mut impl Write, refusal: Refusal) -> Result<()> {
     let fault = u8::from(refusal.fault);
-    writeln!(out, " refused {fault} {}", refusal.at)
+    write_word(out, "refused")?;
+    write_numbers(out, &[usize::from(fault), refusal.at])
 }
 
 // Counts, table size and the offset of the records.
 fn header(out: &mut impl Write, h: Header) -> Result<()> {
-    let variables = h.variable_count();
-    let records = h.record_count();
-    let questions = h.question_count();
-    let size = h.table_size();
-    let first = h.first_record().at;
-    write!(out, " {variables} {records} {questions} {size} {first}")
+    let counts = [
+        usize::from(h.variable_count()),
+        usize::from(h.record_count()),
+        usize::from(h.question_count()),
+    ];
+    write_numbers(out, &counts)?;
+    write_numbers(out, &[h.table_size(), h.first_record().at])
 }
 
 fn accepted(out: &mut impl Write, found: Accepted) -> Result<()> {
-    write!(out, " accepted")?;
+    write_word(out, "accepted")?;
     header(out, found.header)?;
-    writeln!(out, " {}", found.asked.at)
+    write_numbers(out, &[found.asked.at])
 }
 
 // The whole sheet: accepted with what its header says and the offset of the questions, or refused.
 pub fn show_sheet(out: &mut impl Write, case: &Case) -> Result<()> {
     case.begin(out)?;
     match sheet::read_sheet(case.bytes) {
-        Ok(found) => accepted(out, found),
-        Err(refusal) => refused(out, refusal),
+        Ok(found) => accepted(out, found)?,
+        Err(refusal) => refused(out, refusal)?,
     }
+    writeln!(out)
 }
 
 // The header alone.
@@ -38,20 +41,21 @@ pub fn show_header(out: &mut impl Write, case: &Case) -> Result<()> {
     case.begin(out)?;
     match sheet::read_header(case.bytes) {
         Ok(h) => {
-            write!(out, " header")?;
+            write_word(out, "header")?;
             header(out, h)?;
-            writeln!(out)
         }
-        Err(refusal) => refused(out, refusal),
+        Err(refusal) => refused(out, refusal)?,
     }
+    writeln!(out)
 }
 
 // A record's own bytes, by its number.
 fn show_record(out: &mut impl Write, case: &Case, number: u32) -> Result<()> {
     case.begin(out)?;
-    write!(out, " {number} is")?;
+    write_numbers(out, &[number as usize])?;
+    write_word(out, "is")?;
     for byte in sheet::record_part(case.bytes, number) {
-        write!(out, " {byte}")?;
+        write_numbers(out, &[usize::from(*byte)])?;
     }
     writeln!(out)
 }

@@ -34,44 +34,24 @@ unfolding table worked counts_of labels_from ◌and◌ ◌or◌ Tests.less Tests
     Support.under_child Support.over_child Support.under_label Support.supported
     Replies.reply_by Replies.replies_of Replies.stated_label
 table_holds =
-    -- C1
-    refl next
-    -- C2
-    refl next
-    -- C3
-    refl next
-    -- C4
-    refl next
-    -- C5
-    refl next
-    -- C6
-    refl next
-    -- C7
-    refl next
-    -- C8
-    refl next
-    -- C9
-    refl next
-    -- C10
-    refl next
-    -- C11
-    refl next
-    -- C12
-    refl next
-    -- two bare variables
-    refl next
-    -- F1.2
-    refl next
-    -- F2
-    refl next
-    -- F4 from a stated ~
-    refl next
-    -- two features
-    refl next
-    -- a feature is not passed downward
-    refl next
-    -- a label is not passed along ~
-    refl next
-    -- the least of two columns
-    refl next
+    refl next  -- C1
+    refl next  -- C2
+    refl next  -- C3
+    refl next  -- C4
+    refl next  -- C5
+    refl next  -- C6
+    refl next  -- C7
+    refl next  -- C8
+    refl next  -- C9
+    refl next  -- C10
+    refl next  -- C11
+    refl next  -- C12
+    refl next  -- two bare variables
+    refl next  -- F1.2
+    refl next  -- F2
+    refl next  -- F4 from a stated ~
+    refl next  -- two features
+    refl next  -- a feature is not passed downward
+    refl next  -- a label is not passed along ~
+    refl next  -- the least of two columns
     done
