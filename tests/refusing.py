@@ -80,8 +80,9 @@ def failed(edit, folder, said):
 
 def stands(text, line):
     """Whether a text stands in a line, and not within a longer word."""
-    at = re.escape(text)
-    return re.search(rf"(?<!\w){at}(?!\w)|(?=\W){at}(?!\w)|(?<!\w){at}(?<=\W)|(?=\W){at}(?<=\W)", line) is not None
+    before = r"(?<!\w)" if re.match(r"\w", text) else ""
+    behind = r"(?!\w)" if re.search(r"\w$", text) else ""
+    return re.search(before + re.escape(text) + behind, line) is not None
 
 
 def agree(place, found, is_cut):
