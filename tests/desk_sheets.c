@@ -120,6 +120,15 @@ static const struct sheet questions[] = {
     { "below two labels", BYTES(7, 3, 0, 4, 0, 5,  1, 0, 1,  1, 0, 2,  8, 1, 0, 5,  8, 2, 0, 6,
         2, 1, 2,  1, 1, 2,  8, 0, 0, 9,  1, 0, 2,  1, 1, 0), CONSISTENT(5, 7), 5,
         BYTES(3, 3, 3,  2, 3, 0,  2, 0, 3), BYTES(NEVER, NEVER, NEVER, ALWAYS, NEVER) },
+    // 5(0)?
+    { "one variable, asked", BYTES(5, 1, 0, 1,  8, 0, 0, 5), CONSISTENT(1, 1), 1, BYTES(3), BYTES(OPEN) },
+    { "two variables", BYTES(1, 2), CONSISTENT(2, 2), 0, BYTES(3, 0,  0, 3), NONE },
+    // 0 <= 0, 0 ~ 0, 0[65535]0, 0(0) in one record
+    { "one record, all fields", BYTES(3, 1, 0, 1,  15, 0, 0, 0, 255, 255, 0, 0, 0), CONSISTENT(1, 1), 0,
+        BYTES(3), NONE },
+    // 0 <= 4
+    { "last variable", BYTES(3, 5, 0, 1,  1, 0, 4), CONSISTENT(6, 7), 0,
+        BYTES(3, 0, 0, 0, 3,  0, 3, 0, 0, 0,  0, 0, 3, 0, 0,  0, 0, 0, 3, 0,  2, 0, 0, 0, 3), NONE },
     // 0[1]1, 0[257]2, 5(1), 261(2); 0[257]1? 0[256]1? 0[1]1?
     { "high bytes", BYTES(7, 3, 0, 4, 0, 3,  4, 0, 0, 1, 1,  4, 0, 1, 1, 2,  8, 1, 0, 5,
         8, 2, 1, 5,  4, 0, 1, 1, 1,  4, 0, 1, 0, 1,  4, 0, 0, 1, 1), CONSISTENT(3, 3), 3,
@@ -201,6 +210,8 @@ static const struct sheet faulty[] = {
     FAULT("1025 of both", DOLVREKI_COUNT, 2, 7, 1, 4, 1, 4, 1),
     FAULT("half a record count", DOLVREKI_CUT, 3, 3, 1, 255),
     FAULT("half a question count", DOLVREKI_CUT, 5, 7, 1, 0, 0, 255),
+    FAULT("record map 0", DOLVREKI_ITEM_MAP, 4, 3, 1, 0, 1, 0),
+    FAULT("one behind the last variable", DOLVREKI_VARIABLE_RANGE, 6, 3, 5, 0, 1, 1, 0, 5),
     FAULT("record map 16, no such subject", DOLVREKI_ITEM_MAP, 4, 3, 1, 0, 1, 16, 1),
     FAULT("no such subject, no target", DOLVREKI_VARIABLE_RANGE, 5, 3, 1, 0, 1, 15, 1),
     FAULT("half a feature", DOLVREKI_CUT, 9, 3, 1, 0, 1, 15, 0, 0, 0, 0),

@@ -1,6 +1,5 @@
 // A case, and what it shows by its word.
-use crate::{checks, lengths, readings};
-use std::alloc::Global;
+use crate::{lengths, readings};
 use std::io::{Result, Write};
 
 // A word, behind a space.
@@ -19,7 +18,7 @@ pub fn write_numbers(out: &mut impl Write, numbers: &[usize]) -> Result<()> {
 // One line of the text.
 #[derive(Clone, Copy)]
 pub struct Case<'a> {
-    // which reading or check is shown
+    // which reading is shown
     pub word: &'a str,
     // all that stands before the colon, the word too
     pub name: &'a str,
@@ -42,15 +41,13 @@ impl Case<'_> {
     }
 
     // What the word asks for; any other word shows nothing.
-    pub fn show(&self, out: &mut impl Write, alloc: Global) -> Result<()> {
+    pub fn show(&self, out: &mut impl Write) -> Result<()> {
         match self.word {
             "sheet" => readings::show_sheet(out, self),
             "header" => readings::show_header(out, self),
             "records" => readings::show_records(out, self),
             "cuts" => lengths::show_cuts(out, self),
-            "longest" => lengths::show_longest(out, alloc, self),
-            "outcome" => checks::show_outcome(out, alloc, self),
-            "buffers" => checks::show_buffers(out, alloc, self),
+            "longest" => lengths::show_longest(out, self),
             _ => Ok(()),
         }
     }

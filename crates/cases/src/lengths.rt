@@ -1,9 +1,7 @@
 // Every truncation of a sheet, and the longest sheet.
 use crate::case::Case;
-use crate::checks::show_outcome;
 use crate::readings::show_sheet;
-use engine::LONGEST_SHEET;
-use std::alloc::Global;
+use sheet::LONGEST_SHEET;
 use std::io::{Result, Write};
 
 pub fn show_cuts(out: &mut impl Write, case: &Case) -> Result<()> {
@@ -26,20 +24,13 @@ fn longest_and_one() -> [u8; LONGEST_SHEET + 1] {
 }
 
 // How the longest sheet, one byte less and one more are read.
-fn show_readings(out: &mut impl Write, more: &Case) -> Result<()> {
-    show_sheet(out, &more.cut(LONGEST_SHEET))?;
-    show_sheet(out, &more.cut(LONGEST_SHEET - 1))?;
-    show_sheet(out, more)
-}
-
-// The first and the last are checked too.
-pub fn show_longest(out: &mut impl Write, alloc: Global, case: &Case) -> Result<()> {
+pub fn show_longest(out: &mut impl Write, case: &Case) -> Result<()> {
     let bytes = longest_and_one();
     let more = Case {
         bytes: &bytes,
         ..*case
     };
-    show_readings(out, &more)?;
-    show_outcome(out, alloc, &more.cut(LONGEST_SHEET))?;
-    show_outcome(out, alloc, &more)
+    show_sheet(out, &more.cut(LONGEST_SHEET))?;
+    show_sheet(out, &more.cut(LONGEST_SHEET - 1))?;
+    show_sheet(out, &more)
 }

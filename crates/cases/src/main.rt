@@ -3,7 +3,6 @@
 #![tactic(auto)]
 
 mod case;
-mod checks;
 mod lengths;
 mod readings;
 
@@ -34,7 +33,7 @@ fn run(out: &mut impl Write, alloc: Global, line: &str) -> io::Result<()> {
     let word = name.split_ascii_whitespace().next().unwrap_or("");
     let sheet = bytes_of(alloc, numbers)?;
     let bytes = sheet.as_slice();
-    Case { word, name, bytes }.show(out, alloc)
+    Case { word, name, bytes }.show(out)
 }
 
 fn main(rt: HostRuntime) -> io::Result<()> {

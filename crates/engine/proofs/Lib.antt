@@ -1,4 +1,7 @@
--- Laws of the check.
+-- Laws of the replies and of the check.
+pub mod Told
+pub mod Answered
+pub mod Going
 pub mod Steps
 pub mod Whole
 pub mod Meaning

@@ -22,7 +22,7 @@ use Rattle.closure.specs.declared.closed.Closed.{Closed}
 use Rattle.closure.specs.Making.{Lawful, Made, variables_of, table_of, spreads_of}
 use Rattle.closure.proofs.Theorems.{is_derived_table, clash_is, stands, may_try, one_label_each}
 use Rattle.closure.specs.Trials.{Standing}
-use Rattle.replies.specs.Replying.{Held}
+use Rattle.engine.specs.Replying.{Held}
 use Rattle.outcomes.specs.declared.outcomes.Outcome.{Outcome}
 use Rattle.outcomes.specs.Closed.{outcome_by}
 use Rattle.promise.specs.Checks.{where_consistent}

@@ -1,2 +1,3 @@
--- The check of a sheet: its outcome, what it writes, and what both mean.
+-- The check of a sheet: the replies to its questions, its outcome, what it writes, and what both mean.
+pub mod Replying
 pub mod Steps

@@ -14,7 +14,7 @@ use Rattle.answers.specs.Supports.{SingleLabels}
 use Rattle.closure.specs.declared.closed.Closed.{Closed}
 use Rattle.closure.specs.Making.{variables_of, table_of, spreads_of}
 use Rattle.closure.specs.Trials.{Trying}
-use Rattle.replies.specs.Replying.{Asked, Held}
+use Rattle.engine.specs.Replying.{Asked, Held}
 use Rattle.outcomes.specs.declared.outcomes.Outcome.{Outcome}
 use Rattle.promise.specs.Checks.{sheet_outcome, where_consistent}
 

@@ -13,10 +13,10 @@ ghost use Rattle.promise.specs.Checks.{of_refusal, where_consistent, Checked};
 ghost use Rattle.promise.specs.Promise.{Means};
 ghost use Rattle.engine.specs.Steps.{Answering, Accepting, Filled};
 
+use crate::sheets::reply_all;
 use closure::{Closed, make};
 use facts::Growth;
 use outcomes::{Outcome, judge, outcome_of};
-use replies::reply_all;
 use rules::Verdict;
 use selections::Groups;
 use sheet::{Accepted, Refusal};

@@ -3,6 +3,8 @@
 
 mod checking;
 mod exports;
+mod reply;
+mod sheets;
 
 pub use checking::check;
 pub use exports::check_sheet;

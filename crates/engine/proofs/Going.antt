@@ -21,8 +21,8 @@ use Rattle.facts.proofs.Growing.{same_none, same_then}
 use Rattle.selections.specs.declared.grouped.Groups.{Groups}
 use Rattle.closure.specs.declared.closed.Closed.{Closed}
 use Rattle.closure.specs.Trials.{Restored}
-use Rattle.replies.specs.Replying.{Held, ReplyTold, Asked}
-use Rattle.replies.proofs.Answered.{Answers, answers_start, question_named, answers_on, none_refused}
+use Rattle.engine.specs.Replying.{Held, ReplyTold, Asked}
+use Rattle.engine.proofs.Answered.{Answers, answers_start, question_named, answers_on, none_refused}
 
 -- all is as it was
 pub restored_none : (g : Growth) (groups : Groups) → Restored g g groups groups

@@ -4,7 +4,7 @@ ghost use Rattle.std.specs.Prelude.{map, ◌≡◌};
 ghost use Rattle.sheet.specs.Sheets.{sheet_of};
 ghost use Rattle.rules.specs.Replies.{replies_of, reply_number};
 ghost use Rattle.closure.specs.Trials.{Restored};
-ghost use Rattle.replies.specs.Replying.{Replying, Held, Asked};
+ghost use Rattle.engine.specs.Replying.{Replying, Held, Asked};
 
 use crate::reply::reply;
 use closure::Closed;

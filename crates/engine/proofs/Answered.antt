@@ -24,7 +24,7 @@ use Rattle.sheet.proofs.Theorems.{accepted_read, accepted_sheet, accepted_variab
 use Rattle.rules.specs.declared.replies.Reply.{Reply}
 use Rattle.rules.specs.Replies.{reply_to, replies_of, reply_number}
 use Rattle.rules.proofs.Lists.{all_split}
-use Rattle.replies.specs.Replying.{Asked}
+use Rattle.engine.specs.Replying.{Asked}
 
 -- the numbers of the replies of a list of bytes to some questions
 abbrev numbers_of : List ℕ → List Query → List ℕ

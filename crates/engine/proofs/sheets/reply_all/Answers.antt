@@ -1,8 +1,8 @@
 -- One question after another has its reply.
 use Rattle.std.proofs.Common.{sym, arith}
-use Rattle.replies.proofs.Answered.{answers_end}
-use Rattle.replies.proofs.Going.{going_start, question_asks, going_refused, going_next}
-use Rattle.replies.proofs.sheets.reply_all.Goals as goal
+use Rattle.engine.proofs.Answered.{answers_end}
+use Rattle.engine.proofs.Going.{going_start, question_asks, going_refused, going_next}
+use Rattle.engine.proofs.sheets.reply_all.Goals as goal
 
 pub loop-place-init : goal.loop-place-init
 loop-place-init c = going_start _ _ _ _ _ c.requires.asked

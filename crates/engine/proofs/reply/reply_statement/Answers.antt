@@ -1,6 +1,6 @@
 -- Support is told first, then the trial.
-use Rattle.replies.proofs.Told.{always_told, never_told, open_told}
-use Rattle.replies.proofs.reply.reply_statement.Goals as goal
+use Rattle.engine.proofs.Told.{always_told, never_told, open_told}
+use Rattle.engine.proofs.reply.reply_statement.Goals as goal
 
 pub returns-then-supports-clause-told : goal.returns-then-supports-clause-told
 returns-then-supports-clause-told c =

@@ -3,7 +3,7 @@ ghost use Rattle.std.specs.Prelude.{◌≡◌};
 ghost use Rattle.items.specs.Questions.{Asks, holds, query_of};
 ghost use Rattle.items.specs.Statements.{Names};
 ghost use Rattle.closure.specs.Trials.{Restored};
-ghost use Rattle.replies.specs.Replying.{Replying, Held, ReplyTold};
+ghost use Rattle.engine.specs.Replying.{Replying, Held, ReplyTold};
 
 use answers::supports;
 use closure::{Closed, trial};

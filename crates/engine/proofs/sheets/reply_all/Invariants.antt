@@ -1,6 +1,6 @@
 -- The questions read so far have their replies, and table, queue and groups are as they were.
-use Rattle.replies.proofs.Going.{Going}
-use Rattle.replies.proofs.sheets.reply_all.Given as goal
+use Rattle.engine.proofs.Going.{Going}
+use Rattle.engine.proofs.sheets.reply_all.Given as goal
 
 abbrev pub invariant-loop-place : goal.invariant-loop-place
 invariant-loop-place l =

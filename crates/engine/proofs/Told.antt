@@ -16,7 +16,7 @@ use Rattle.answers.specs.Supports.{SupportTold}
 use Rattle.closure.specs.declared.closed.Closed.{Closed}
 use Rattle.closure.specs.Making.{table_of, spreads_of}
 use Rattle.closure.specs.Trials.{Standing, Tried}
-use Rattle.replies.specs.Replying.{Held, ReplyTold}
+use Rattle.engine.specs.Replying.{Held, ReplyTold}
 
 module _ {n m : ℕ} (same : m ≡ n) (c : Closed) (groups : Groups) {q : Statement} {supports : Bool}
     (told : SupportTold m (table_of c) c.selections.now (spreads_of c) q supports) where

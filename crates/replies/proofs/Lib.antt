@@ -1,4 +1,0 @@
--- Laws of replies.
-pub mod Told
-pub mod Answered
-pub mod Going

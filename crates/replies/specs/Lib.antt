@@ -1,2 +1,0 @@
--- Replies to questions.
-pub mod Replying
