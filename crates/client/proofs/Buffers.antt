@@ -8,7 +8,7 @@ use native.Mathlib.Omega.{arith}
 use Rattle.fields.specs.Refusals.{short_table, short_replies}
 use Rattle.fields.specs.Tests.{pick}
 use Rattle.fields.proofs.Choice.{not_less}
-use Rattle.headers.specs.Headers.{size_for, largest_table, reply_count, most_replies}
+use Rattle.sheet.specs.Headers.{size_for, largest_table, reply_count, most_replies}
 use Rattle.sheet.specs.declared.whole.Accepted.{Accepted}
 use Rattle.sheet.specs.Sheets.{read_sheet}
 use Rattle.sheet.proofs.Theorems.{accepted_read}

@@ -7,8 +7,8 @@ use mathlib.Core.Logic.{◌↔◌}
 use mathlib.Core.Path.{◌≡◌, ap, ◌∙◌}
 use native.Mathlib.Omega.{arith}
 use Rattle.fields.specs.declared.refusals.Refusal.{Refusal}
-use Rattle.headers.specs.declared.headers.Header.{Header}
-use Rattle.headers.specs.Headers.{header_of, largest_table, reply_count, most_replies}
+use Rattle.sheet.specs.declared.headers.Header.{Header}
+use Rattle.sheet.specs.Headers.{header_of, largest_table, reply_count, most_replies}
 use Rattle.sheet.specs.Sheets.{read_sheet, sheet_of}
 use Rattle.sheet.proofs.Theorems.{accepted_read, asked_replies}
 use Rattle.outcomes.specs.Outcomes.{kind_in}

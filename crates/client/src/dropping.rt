@@ -1,6 +1,6 @@
 // Whether a run-time test may be left out: the check, on buffers of its own.
 ghost use Rattle.std.specs.Prelude.{◌≡◌, ◌<◌, ◌↔◌, IsTrue, length, get_or};
-ghost use Rattle.headers.specs.Headers.{most_replies};
+ghost use Rattle.sheet.specs.Headers.{most_replies};
 ghost use Rattle.sheet.specs.Sheets.{read_sheet, sheet_of};
 ghost use Rattle.promise.specs.Promise.{IsAccepted};
 ghost use Rattle.client.specs.Dropping.{MayDrop};

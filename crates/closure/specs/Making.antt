@@ -1,6 +1,6 @@
 -- Groups that were made of a selection list, the table that was derived with them, and what is known of both.
 use Rattle.std.specs.Prelude.{ℕ, List, ◌≡◌}
-use Rattle.headers.specs.Headers.{size_for}
+use Rattle.sheet.specs.Headers.{size_for}
 use Rattle.selections.specs.declared.grouped.Groups.{Groups}
 use Rattle.selections.specs.declared.listed.Selection.{Selection}
 use Rattle.selections.specs.Listed.{Selections}

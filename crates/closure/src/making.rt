@@ -8,7 +8,7 @@ use facts::Growth;
 use selections::{Groups, Selection};
 
 // Groups the selections and fills the table with all facts that follow.
-#[tactic(auto, unfolding(headers::specs::Headers::size_for))]
+#[tactic(auto, unfolding(sheet::specs::Headers::size_for))]
 pub fn make(growth: &mut Growth, groups: &mut Groups, pairs: &[Pair], selections: &[Selection])
     requires { Lawful growth.old.n pairs.now selections.now (length growth.old.cells.now) }
     ensures made { Made growth.old.n pairs.now selections.now groups.new growth.new.cells.now }

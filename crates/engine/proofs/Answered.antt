@@ -17,7 +17,7 @@ use Rattle.items.specs.declared.items.Question.{Question}
 use Rattle.items.specs.Items.{item_at, items_end, items_of, question_at}
 use Rattle.items.specs.Questions.{Query, question_of, query_of, Asks, AllAsk}
 use Rattle.items.proofs.Runs.{run_on, run_reads, items_over, items_on}
-use Rattle.headers.specs.Headers.{reply_count}
+use Rattle.sheet.specs.Headers.{reply_count}
 use Rattle.sheet.specs.declared.whole.Accepted.{Accepted}
 use Rattle.sheet.specs.Sheets.{asks, sheet_of, sheet_at}
 use Rattle.sheet.proofs.Theorems.{accepted_read, accepted_sheet, accepted_variables, accepted_asked}

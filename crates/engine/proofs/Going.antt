@@ -11,7 +11,7 @@ use Rattle.fields.specs.declared.refusals.Refusal.{Refusal}
 use Rattle.items.specs.declared.items.Question.{Question}
 use Rattle.items.specs.Questions.{Query, query_of, Asks}
 use Rattle.items.specs.Items.{question_at}
-use Rattle.headers.specs.Headers.{reply_count}
+use Rattle.sheet.specs.Headers.{reply_count}
 use Rattle.sheet.specs.declared.whole.Accepted.{Accepted}
 use Rattle.sheet.specs.Sheets.{sheet, sheet_of}
 use Rattle.rules.specs.declared.replies.Reply.{Reply}

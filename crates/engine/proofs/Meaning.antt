@@ -10,7 +10,7 @@ use mathlib.Core.Path.{◌≡◌, refl, ap, ◌∙◌}
 use native.Mathlib.Omega.{arith}
 use Rattle.std.proofs.lemmas.Bool.{both_ways}
 use Rattle.fields.specs.declared.refusals.Refusal.{Refusal}
-use Rattle.headers.specs.Headers.{size_for}
+use Rattle.sheet.specs.Headers.{size_for}
 use Rattle.items.specs.Questions.{Query}
 use Rattle.items.specs.Statements.{All}
 use Rattle.sheet.specs.declared.whole.Accepted.{Accepted}

@@ -6,7 +6,7 @@ use lib.Seq.{length-take-le}
 use mathlib.Core.List.{List, ◌++◌, map}
 use mathlib.Core.Path.{◌≡◌, refl, sym, ◌∙◌}
 use Rattle.fields.specs.declared.refusals.Refusal.{Refusal}
-use Rattle.headers.specs.Headers.{size_for, table_size, reply_count}
+use Rattle.sheet.specs.Headers.{size_for, table_size, reply_count}
 use Rattle.sheet.specs.declared.whole.Accepted.{Accepted}
 use Rattle.sheet.specs.Sheets.{sheet_of}
 use Rattle.sheet.proofs.Theorems.{accepted_variables, asked_replies}

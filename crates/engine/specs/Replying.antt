@@ -1,6 +1,6 @@
 -- When questions can be replied to, and what the replies are.
 use Rattle.std.specs.Prelude.{ℕ, length, List, Ok, None, ◌≡◌}
-use Rattle.headers.specs.Headers.{reply_count}
+use Rattle.sheet.specs.Headers.{reply_count}
 use Rattle.items.specs.declared.items.Statement.{Statement}
 use Rattle.items.specs.Questions.{Query}
 use Rattle.sheet.specs.declared.whole.Accepted.{Accepted}

@@ -1,6 +1,6 @@
 -- The steps of a check of an accepted sheet, on buffers of exactly the size in use.
 use Rattle.std.specs.Prelude.{ℕ, length, replicate, List, map, None, ◌≡◌}
-use Rattle.headers.specs.Headers.{size_for, table_size}
+use Rattle.sheet.specs.Headers.{size_for, table_size}
 use Rattle.items.specs.declared.items.Statement.{Statement}
 use Rattle.sheet.specs.declared.whole.Accepted.{Accepted}
 use Rattle.sheet.specs.Sheets.{Sheet}

@@ -2,7 +2,7 @@
 // one by one, as C lends them: what becomes of lent bytes is known for the fields of one struct, and a growth is one. A
 // sheet's bytes stand beside what was read of them: `Accepted` holds none, so that a user can keep it.
 ghost use Rattle.std.specs.Prelude.{◌≤◌, length, replicate, map, None, ◌≡◌};
-ghost use Rattle.headers.specs.Headers.{size_for};
+ghost use Rattle.sheet.specs.Headers.{size_for};
 ghost use Rattle.sheet.specs.Sheets.{longest, sheet_of};
 ghost use Rattle.rules.specs.Replies.{replies_of, reply_number};
 ghost use Rattle.rules.specs.Verdicts.{verdict_by};

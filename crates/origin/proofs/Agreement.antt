@@ -15,9 +15,9 @@ use Rattle.fields.specs.Refusals.{bad_header_map, bad_variable_count, remain, tr
 use Rattle.fields.specs.Tests.{less, same, has}
 use Rattle.fields.specs.Tests as Tests
 use Rattle.fields.proofs.Chains.{told}
-use Rattle.headers.specs.declared.headers.Header as H
-use Rattle.headers.specs.Headers as Heads
-use Rattle.headers.specs.Headers.{header_of, header_map, variable_count, count_if}
+use Rattle.sheet.specs.declared.headers.Header as H
+use Rattle.sheet.specs.Headers as Heads
+use Rattle.sheet.specs.Headers.{header_of, header_map, variable_count, count_if}
 use Rattle.items.specs.Items.{items_end}
 use Rattle.sheet.specs.declared.whole.Accepted.{Accepted}
 use Rattle.sheet.specs.Parts as Parts

@@ -14,7 +14,7 @@ use Rattle.fields.specs.declared.refusals.Refusal.{Refusal}
 use Rattle.fields.specs.Fields.{Read, cursor, variable, found, present, then_field, field_if, word, judged, byte_field, word_field, variable_field}
 use Rattle.fields.specs.Refusals.{cut, ends, bad_count, count_refusal, bad_variable, variable_refusal}
 use Rattle.fields.specs.Tests.{pick, less}
-use Rattle.headers.specs.Headers.{count_field, count_if}
+use Rattle.sheet.specs.Headers.{count_field, count_if}
 use Rattle.origin.specs.Sheets.{byte_at, word_at, cut as is_cut}
 
 -- x is what f makes of the answer; shut, so that both are found in it

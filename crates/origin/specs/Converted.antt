@@ -4,7 +4,7 @@ use Rattle.fields.specs.declared.refusals.Place.{Place}
 use Rattle.fields.specs.declared.refusals.Refusal.{Refusal}
 use Rattle.fields.specs.Fields.{Read as Reading}
 use Rattle.fields.specs.Refusals.{number_of}
-use Rattle.headers.specs.declared.headers.Header as H
+use Rattle.sheet.specs.declared.headers.Header as H
 use Rattle.items.specs.declared.items.Item as I
 use Rattle.items.specs.declared.items.Statement as S
 use Rattle.items.specs.Statements.{statements_of}

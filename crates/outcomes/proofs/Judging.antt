@@ -10,7 +10,7 @@ use Rattle.fields.specs.declared.refusals.Refusal.{Refusal}
 use Rattle.fields.specs.Refusals.{short_table, short_replies}
 use Rattle.fields.specs.Tests.{less, pick}
 use Rattle.fields.proofs.Choice.{less_false}
-use Rattle.headers.specs.Headers.{table_size, reply_count}
+use Rattle.sheet.specs.Headers.{table_size, reply_count}
 use Rattle.sheet.specs.declared.whole.Accepted.{Accepted}
 use Rattle.sheet.specs.Sheets.{read_sheet, longest}
 use Rattle.sheet.proofs.Theorems.{refused_near}

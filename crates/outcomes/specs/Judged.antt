@@ -4,7 +4,7 @@ use Rattle.fields.specs.declared.refusals.Refusal.{Refusal}
 use Rattle.fields.specs.Fields.{then_value}
 use Rattle.fields.specs.Refusals.{short_table, table_refusal, short_replies, replies_refusal}
 use Rattle.fields.specs.Tests.{pick}
-use Rattle.headers.specs.Headers.{table_size, reply_count}
+use Rattle.sheet.specs.Headers.{table_size, reply_count}
 use Rattle.sheet.specs.declared.whole.Accepted.{Accepted}
 use Rattle.sheet.specs.Sheets.{read_sheet}
 

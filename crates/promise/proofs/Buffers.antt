@@ -6,7 +6,7 @@ use mathlib.Core.List.{List, ◌++◌}
 use mathlib.Core.Path.{◌≡◌, refl}
 use native.Mathlib.Omega.{arith}
 use Rattle.std.proofs.lemmas.Slice.{drop-append-drop}
-use Rattle.headers.specs.Headers.{size_for}
+use Rattle.sheet.specs.Headers.{size_for}
 use Rattle.sheet.specs.Sheets.{sheet_of}
 use Rattle.rules.proofs.Tables.{table_length}
 use Rattle.outcomes.specs.Outcomes.{kind_in}

@@ -1,7 +1,7 @@
 -- What a check of any bytes gives, and what it leaves in the lent buffers.
 use Rattle.std.specs.Prelude.{ℕ, length, drop, replicate, List, ◌++◌, map, ◌≡◌, Result}
 use Rattle.fields.specs.declared.refusals.Refusal.{Refusal}
-use Rattle.headers.specs.Headers.{size_for}
+use Rattle.sheet.specs.Headers.{size_for}
 use Rattle.fields.specs.Fields.{then_value}
 use Rattle.sheet.specs.declared.whole.Accepted.{Accepted}
 use Rattle.sheet.specs.Sheets.{Sheet, sheet_of}

@@ -3,7 +3,7 @@ use Rattle.std.specs.Prelude.{ℕ, zero, suc, ◌<◌, true, length, get_or, tak
 use Rattle.std.proofs.Math.Option.{Option, none, some}
 use Rattle.fields.specs.declared.refusals.Refusal.{Refusal}
 use Rattle.fields.specs.Refusals.{number_of}
-use Rattle.headers.specs.Headers.{size_for}
+use Rattle.sheet.specs.Headers.{size_for}
 use Rattle.items.specs.Questions.{Query, holds}
 use Rattle.sheet.specs.declared.whole.Accepted.{Accepted}
 use Rattle.sheet.specs.Sheets.{Sheet, sheet_of}

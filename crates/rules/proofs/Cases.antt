@@ -3,7 +3,7 @@ use mathlib.Core.Path.{refl}
 use Rattle.fields.specs.Tests as Tests
 use Rattle.fields.specs.Refusals as Refusals
 use Rattle.fields.specs.Fields as Fields
-use Rattle.headers.specs.Headers as Headers
+use Rattle.sheet.specs.Headers as Headers
 use Rattle.items.specs.Items as Items
 use Rattle.items.specs.Statements as Statements
 use Rattle.items.specs.Questions as Questions

@@ -10,7 +10,7 @@ use Rattle.std.proofs.lemmas.Bool.{both_ways}
 use Rattle.std.proofs.lemmas.Nat.{mul-add-lt}
 use Rattle.fields.specs.Tests.{less}
 use Rattle.fields.proofs.Choice.{is_less, less_true}
-use Rattle.headers.specs.Headers.{size_for}
+use Rattle.sheet.specs.Headers.{size_for}
 use Rattle.rules.specs.Connectives.{◌and◌}
 use Rattle.rules.specs.declared.kinds.Kind.{Kind}
 use Rattle.rules.specs.Facts.{Relation, Holds}

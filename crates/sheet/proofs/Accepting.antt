@@ -12,8 +12,8 @@ use Rattle.fields.specs.declared.refusals.Refusal.{Refusal}
 use Rattle.fields.specs.Refusals.{remain}
 use Rattle.fields.proofs.Chains.{Of, known, either, after_value}
 use Rattle.fields.proofs.Choice.{less_false}
-use Rattle.headers.specs.Headers.{header_of}
-use Rattle.headers.proofs.Heads.{Heads, header_spans}
+use Rattle.sheet.specs.Headers.{header_of}
+use Rattle.sheet.proofs.Heads.{Heads, header_spans}
 use Rattle.items.specs.Items.{items_end}
 use Rattle.items.proofs.Runs.{run_spans}
 use Rattle.sheet.specs.declared.whole.Accepted.{Accepted}

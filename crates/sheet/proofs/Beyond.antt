@@ -22,9 +22,9 @@ use Rattle.fields.specs.Tests.{pick, has}
 use Rattle.fields.proofs.Chains.{Of}
 use Rattle.fields.proofs.Choice.{is_less, not_less, pick_most, picked}
 use Rattle.fields.proofs.Extents.{judged_spans, if_spans, word_spans, variable_spans}
-use Rattle.headers.specs.declared.headers.Header.{Header}
-use Rattle.headers.specs.Headers.{header_map, variable_count, count_field, count_if, header_of}
-use Rattle.headers.proofs.Heads.{Heads, header_spans, count_if_spans}
+use Rattle.sheet.specs.declared.headers.Header.{Header}
+use Rattle.sheet.specs.Headers.{header_map, variable_count, count_field, count_if, header_of}
+use Rattle.sheet.proofs.Heads.{Heads, header_spans, count_if_spans}
 use Rattle.items.specs.Items.{map_field, fields_width, width, most, edge_field, label_field, fields_at, item_at, items_end}
 use Rattle.items.proofs.Filled.{edge_spans, label_spans}
 use Rattle.items.proofs.Lawful.{width_most, item_spans, most_least}

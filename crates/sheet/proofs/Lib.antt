@@ -1,4 +1,5 @@
--- Laws of the whole sheet that belong to no one function.
+-- Laws of the header and of the whole sheet that belong to no one function.
+pub mod Heads
 pub mod Accepting
 pub mod Named
 pub mod Longest

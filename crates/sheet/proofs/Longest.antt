@@ -19,7 +19,7 @@ use Rattle.fields.specs.Refusals.{bad_variable, remain}
 use Rattle.fields.specs.Tests.{less, same, pick, has}
 use Rattle.fields.proofs.Chains.{Of, told, either, after_field}
 use Rattle.fields.proofs.Choice.{chosen, passed, is_less, not_less, is_same, less_true, picked}
-use Rattle.headers.specs.Headers.{header, header_map, variable_count, count_field, count_if, header_of}
+use Rattle.sheet.specs.Headers.{header, header_map, variable_count, count_field, count_if, header_of}
 use Rattle.items.specs.declared.items.Item.{Item}
 use Rattle.items.specs.Items.{map_field, edge_field, label_field, fields_at, item_at, items_end, fields_width, width}
 use Rattle.items.proofs.Lawful.{item_spans}

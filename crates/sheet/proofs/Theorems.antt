@@ -8,7 +8,7 @@ use Rattle.fields.specs.declared.refusals.Place.{Place}
 use Rattle.fields.specs.declared.refusals.Refusal.{Refusal}
 use Rattle.fields.specs.Limits.{most_variables}
 use Rattle.fields.proofs.Chains.{told}
-use Rattle.headers.specs.Headers.{reply_count}
+use Rattle.sheet.specs.Headers.{reply_count}
 use Rattle.items.specs.Items.{items_of}
 use Rattle.items.specs.Statements.{AllName}
 use Rattle.items.specs.Questions.{AllAsk}

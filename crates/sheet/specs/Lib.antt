@@ -1,4 +1,5 @@
--- The format of a whole sheet, and what it states and asks.
+-- The format of a sheet, its header and the whole of it, and what it states and asks.
+pub mod Headers
 pub mod Told
 pub mod Sheets
 pub mod Parts

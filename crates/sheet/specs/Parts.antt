@@ -3,7 +3,7 @@ use Rattle.std.specs.Prelude.{ℕ, ◌-◌, List, [], take, drop}
 use Rattle.fields.specs.declared.refusals.Place.{Place}
 use Rattle.fields.specs.Fields.{then_value, then_field}
 use Rattle.fields.specs.Tests.{less, pick}
-use Rattle.headers.specs.declared.headers.Header.{Header}
+use Rattle.sheet.specs.declared.headers.Header.{Header}
 use Rattle.items.specs.Items.{item_at, items_end}
 use Rattle.sheet.specs.Sheets.{read_sheet}
 

@@ -7,8 +7,8 @@ use Rattle.fields.specs.Fields.{then_value}
 use Rattle.fields.specs.Refusals.{remain, trailing_refusal}
 use Rattle.fields.specs.Limits.{most_items}
 use Rattle.fields.specs.Tests.{pick}
-use Rattle.headers.specs.declared.headers.Header.{Header}
-use Rattle.headers.specs.Headers.{header_of}
+use Rattle.sheet.specs.declared.headers.Header.{Header}
+use Rattle.sheet.specs.Headers.{header_of}
 use Rattle.items.specs.declared.items.Item.{Item}
 use Rattle.items.specs.declared.items.Statement.{Statement}
 use Rattle.items.specs.Items.{items_end, items_of, most}

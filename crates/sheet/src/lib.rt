@@ -1,6 +1,7 @@
 // Sheets: the whole byte format, and its reader.
 #![tactic(auto)]
 
+mod headers;
 mod parts;
 mod reading;
 mod whole;

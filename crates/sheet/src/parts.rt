@@ -2,10 +2,10 @@
 ghost use Rattle.std.specs.Prelude.{◌≡◌};
 ghost use Rattle.sheet.specs.Parts.{part_at, record_bytes};
 
+use crate::headers::Header;
 use crate::reading::behind_record;
 use crate::whole::read_sheet;
 use fields::Place;
-use headers::Header;
 use items::items_end;
 
 // The bytes of the record that so many records precede.

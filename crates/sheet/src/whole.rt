@@ -2,8 +2,8 @@
 ghost use Rattle.std.specs.Prelude.{◌≡◌};
 ghost use Rattle.sheet.specs.Sheets.{body_of, read_sheet};
 
+use crate::headers::{Header, read_header};
 use fields::{Cursor, Fault, MOST_ITEMS, Place, Refusal};
-use headers::{Header, read_header};
 use items::items_end;
 
 // How many bytes the longest sheet has: 6 of its header, 9 of each record, 5 of each question.

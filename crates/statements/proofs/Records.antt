@@ -10,7 +10,7 @@ use Rattle.fields.specs.declared.numbers.Cursor.{Cursor}
 use Rattle.fields.specs.declared.refusals.Place.{Place}
 use Rattle.fields.specs.declared.refusals.Refusal.{Refusal}
 use Rattle.fields.specs.Limits.{most_variables, most_items}
-use Rattle.headers.specs.declared.headers.Header.{Header}
+use Rattle.sheet.specs.declared.headers.Header.{Header}
 use Rattle.items.specs.declared.items.Item.{Item}
 use Rattle.items.specs.declared.items.Statement.{Statement}
 use Rattle.items.specs.Items.{item_at, items_end, items_of}

@@ -3,7 +3,7 @@ use Rattle.std.specs.Prelude.{ℕ, ◌+◌, ◌*◌, ◌≤◌, length, List, []
 use Rattle.std.specs.Prelude.{Option, option_map, unwrap_or}
 use Rattle.fields.specs.declared.numbers.Cursor.{Cursor}
 use Rattle.fields.specs.Limits.{most_variables, most_items}
-use Rattle.headers.specs.declared.headers.Header.{Header}
+use Rattle.sheet.specs.declared.headers.Header.{Header}
 use Rattle.items.specs.declared.items.Statement.{Statement}
 use Rattle.items.specs.Statements.{AllName}
 use Rattle.sheet.specs.Sheets.{accepted, read_sheet}

@@ -3,8 +3,8 @@ ghost use Rattle.sheet.specs.Sheets.{sheet_of};
 ghost use Rattle.statements.specs.Lists.{Stand, Gathering};
 
 use crate::lists::Lists;
-use headers::Header;
 use items::read_record;
+use sheet::Header;
 
 // What the records of an accepted sheet state.
 pub fn gather(sheet: &[u8], header: Header) -> Lists

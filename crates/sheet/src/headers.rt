@@ -1,8 +1,8 @@
 // The header: a map byte, then by rising bit the fields whose bit stands.
 ghost use Rattle.std.specs.Prelude.{◌≡◌};
 ghost use Rattle.fields.specs.Refusals.{bad_header_map, bad_variable_count};
-ghost use Rattle.headers.specs.Headers.{header_map, variable_count, count_field, count_if, header_of};
-ghost use Rattle.headers.specs.Headers.{table_size, reply_count};
+ghost use Rattle.sheet.specs.Headers.{header_map, variable_count, count_field, count_if, header_of};
+ghost use Rattle.sheet.specs.Headers.{table_size, reply_count};
 
 use fields::{
     Cursor, Fault, MOST_ITEMS, MOST_VARIABLES, Read, Refusal, has_bit, read_byte, read_if,

@@ -7,7 +7,7 @@ use Rattle.fields.specs.Refusals.{bad_header_map, header_map_refusal, bad_variab
 use Rattle.fields.specs.Refusals.{bad_count, count_refusal}
 use Rattle.fields.specs.Limits.{most_variables, most_items}
 use Rattle.fields.specs.Tests.{pick, has}
-use Rattle.headers.specs.declared.headers.Header.{Header}
+use Rattle.sheet.specs.declared.headers.Header.{Header}
 
 abbrev pub header : ℕ → ℕ → ℕ → ℕ → Cursor → Header
 header map n records questions first =

@@ -1,8 +1,8 @@
 -- The count is read where its bit stands.
 use Rattle.std.proofs.Common.{rules}
 use Rattle.fields.proofs.Extents.{read_if_is}
-use Rattle.headers.specs.Headers.{count_field, count_if}
-use Rattle.headers.proofs.headers.read_count_if.Goals as goal
+use Rattle.sheet.specs.Headers.{count_field, count_if}
+use Rattle.sheet.proofs.headers.read_count_if.Goals as goal
 
 pub returns : goal.returns
 unfolding count_if

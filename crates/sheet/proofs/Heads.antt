@@ -16,8 +16,8 @@ use Rattle.fields.specs.Tests.{pick, has, same, less}
 use Rattle.fields.proofs.Chains.{Of, either, after_field}
 use Rattle.fields.proofs.Choice.{less_false, same_false, pick_most}
 use Rattle.fields.proofs.Extents.{FieldSpans, Held, Where, if_spans, word_spans, judged_spans}
-use Rattle.headers.specs.declared.headers.Header.{Header}
-use Rattle.headers.specs.Headers.{header_map, variable_count, count_field, count_if, header_of}
+use Rattle.sheet.specs.declared.headers.Header.{Header}
+use Rattle.sheet.specs.Headers.{header_map, variable_count, count_field, count_if, header_of}
 
 pub record Heads (s : List ℕ) (h : Header) : Type 0 where
   pub some : 1 ≤ h.variables

@@ -1,2 +1,0 @@
--- Laws of the header that belong to no one function.
-pub mod Heads

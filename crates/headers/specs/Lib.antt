@@ -1,2 +1,0 @@
--- The header of a sheet.
-pub mod Headers
