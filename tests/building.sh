@@ -1,11 +1,7 @@
-# How the tests are built, into target/tests; read by `tests/build` and `tests/run`, at the top of the repository. MODE is
-# `kept`, for the gate: program and library are made of what `rt ci` proved and keeps on this machine, and where it has
-# passed the same files, only the two functions of the static library are proved once more. Else both are proved first,
-# over what earlier checks kept in out/.
+# How the tests are built, into target/tests; read by `tests/build` and `tests/run`, at the top of the repository.
 kit=/opt/rattle
 PATH="$kit/bin:$PATH"
 out=$PWD/target/tests
-crates=$PWD/crates
 mkdir -p "$out"
 
 # Runs a command in a folder, quietly; where it fails, the end of what it said is shown.
@@ -15,47 +11,40 @@ quietly() { # LOG FOLDER COMMAND...
     (cd "$folder" && "$@") >"$log" 2>&1 </dev/null || { tail -n 20 "$log"; exit 1; }
 }
 
-# Builds the static library in its crate's folder over the libraries that `rt ci` made, which `rt lib` does not take.
+# Program and library, proved first over what earlier checks kept in out/.
+build_checked() {
+    quietly treecheck crates/treecheck rt run
+    cp crates/treecheck/out/treecheck "$out"
+    quietly archive crates/dolvreki rt lib
+    cp crates/dolvreki/out/libdolvreki.a "$out"
+}
+
+# What `rt ci` made of the crates below the library, as soon as its log says that all are proved: at its end the folders
+# of a checkout hold again what they held before.
+take_proved() { # LOG
+    until grep -qE '^rt: dolvreki (proved|is kept)' "$1"; do
+        sleep 1
+    done
+    rm -rf "$out/proved"
+    for folder in crates/*/out/rlib; do
+        name=$(basename "${folder%/out/rlib}")
+        mkdir -p "$out/proved"
+        cp -r "$folder" "$out/proved/$name"
+    done
+}
+
+# Builds the static library over these, in its crate's folder; only its own two functions are proved once more.
 archive() {
     local words=()
-    for folder in ../*/out/rlib; do
+    for folder in "$out"/proved/*; do
         words+=(-L "dependency=$folder")
     done
     for name in $(sed -n 's/^dolvreki staticlib://p' ../../crates.txt); do
-        words+=(--extern "$name=../$name/out/rlib/$name.rlib")
+        words+=(--extern "$name=$out/proved/$name/$name.rlib")
     done
     rattle build --crate-name dolvreki --crate-type staticlib src/lib.rt "${words[@]}" --extern std=$kit/rlibs/std.rlib \
         -L dependency=$kit/rlibs --antt-project $kit/rattle/logic/antt-project.json --logic-built $kit/logic_built \
         --toolchain $kit/toolchain --backend llvm -o "$out/libdolvreki.a"
-}
-
-# What `rt ci` keeps is given in a copy, since the crates' own out/ may have what was made of other files.
-take_kept() {
-    copy=$(mktemp -d)
-    trap 'rm -rf "$copy"' EXIT
-    mkdir "$copy/.git"
-    [ ! -e HANDLES ] || cp HANDLES "$copy"
-    tar -c --exclude='crates/*/out' crates crates.txt | tar -x -C "$copy"
-    quietly ci "$copy" rt ci
-    crates=$copy/crates
-}
-
-build_program() { # MODE
-    case ${1-} in
-    kept) take_kept ;;
-    *) quietly treecheck "$crates/treecheck" rt run ;;
-    esac
-    cp "$crates/treecheck/out/treecheck" "$out"
-}
-
-build_library() { # MODE
-    case ${1-} in
-    kept) quietly archive "$crates/dolvreki" archive ;;
-    *)
-        quietly archive "$crates/dolvreki" rt lib
-        cp "$crates/dolvreki/out/libdolvreki.a" "$out"
-        ;;
-    esac
 }
 
 # The C test, the second solver and the comparison with it, over the library.
