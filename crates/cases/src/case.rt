@@ -1,5 +1,5 @@
 // A case, and what it shows by its word.
-use crate::{lengths, readings};
+use crate::readings;
 use std::io::{Result, Write};
 
 // A word, behind a space.
@@ -46,8 +46,7 @@ impl Case<'_> {
             "sheet" => readings::show_sheet(out, self),
             "header" => readings::show_header(out, self),
             "records" => readings::show_records(out, self),
-            "cuts" => lengths::show_cuts(out, self),
-            "longest" => lengths::show_longest(out, self),
+            "cuts" => readings::show_cuts(out, self),
             _ => Ok(()),
         }
     }

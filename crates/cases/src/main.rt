@@ -3,7 +3,6 @@
 #![tactic(auto)]
 
 mod case;
-mod lengths;
 mod readings;
 
 use case::Case;

@@ -67,3 +67,11 @@ pub fn show_records(out: &mut impl Write, case: &Case) -> Result<()> {
     }
     Ok(())
 }
+
+// The sheet and every truncation of it.
+pub fn show_cuts(out: &mut impl Write, case: &Case) -> Result<()> {
+    for count in 0..=case.bytes.len() {
+        show_sheet(out, &case.cut(count))?;
+    }
+    Ok(())
+}
