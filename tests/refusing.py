@@ -4,8 +4,8 @@
 
 FILE, below the crate, has the first error that is told; FACT is the goal or the theorem that is said not to be shown;
 TEXT stands in the error's line of the edited file, or in the line of the function that begins there. In src/, where
-functions share names of goals, TEXT is wanted too. `rt` tells only the beginning of an error, so that of a long line the
-name of a fact may be cut off.
+functions share names of goals, TEXT is wanted too. `rt` tells only the beginning of an error: of a long line the name of a
+fact may be cut off, and where none of it is told an edit names none.
 """
 
 import re
@@ -18,8 +18,8 @@ NO_EDIT = re.compile(r"^rt: (\S+: BAD EDIT: .*)", re.M)
 NAMED = re.compile(r"^# fails at (\S+?)(?:, (\S+?))?(?:: (.+?))?$", re.M)
 REFUSED = "refused, as it must be: "
 ERROR = re.compile(r"(note: |)(?:\./)?(\S+?):(\d+):\d+: (error: |)(.*)", re.S)
-FACT_OF_ERROR = re.compile(r"`([^`]*)(`?)")
-FACT_OF_NOTE = re.compile(r"\(`([^`]*)(`?)")
+FACT_OF_ERROR = re.compile(r"`([^`]+)(`?)")
+FACT_OF_NOTE = re.compile(r"\(`([^`]+)(`?)")
 TOLD_AT_MOST = 160
 
 
@@ -73,9 +73,8 @@ def failed(edit, folder, said):
         raise ValueError(said)
     note, file, line, _, message = found.groups()
     fact = FACT_OF_NOTE.search(message) if note else FACT_OF_ERROR.match(message)
-    is_cut = len(first) >= TOLD_AT_MOST and not (fact and fact[2])
-    name = fact[1] if fact else "" if is_cut else None
-    return Place(file, name, line_at(edited(edit, folder, file), int(line))), is_cut
+    is_cut = bool(fact) and not fact[2] and len(first) >= TOLD_AT_MOST
+    return Place(file, fact[1] if fact else None, line_at(edited(edit, folder, file), int(line))), is_cut
 
 
 def stands(text, line):

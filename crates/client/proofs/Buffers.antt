@@ -12,7 +12,7 @@ use Rattle.sheet.specs.Headers.{size_for, largest_table, reply_count, most_repli
 use Rattle.sheet.specs.declared.whole.Accepted.{Accepted}
 use Rattle.sheet.specs.Sheets.{read_sheet}
 use Rattle.sheet.proofs.Theorems.{accepted_read}
-use Rattle.outcomes.specs.Judged.{lent_to, judged}
+use Rattle.outcomes.specs.Judged.{judged}
 
 module _ (b : List ℕ) (a : Accepted) (e : read_sheet b ≡ Ok a) where
   table_fits : size_for a.header.variables ≤ largest_table
@@ -27,5 +27,5 @@ module _ (b : List ℕ) (a : Accepted) (e : read_sheet b ≡ Ok a) where
 
   -- so an accepted sheet is not refused for them
   pub buffers_serve : judged b largest_table largest_table most_replies ≡ Ok a
-  unfolding judged lent_to short_table short_replies pick
+  unfolding judged short_table short_replies pick
   buffers_serve = rw (e, not_less largest_table _ table_fits, not_less most_replies _ replies_fit) refl

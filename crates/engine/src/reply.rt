@@ -30,7 +30,12 @@ fn reply_statement(closed: &Closed, growth: &mut Growth, groups: &mut Groups, x:
 }
 
 // The reply to a question; table and groups are then as they were.
-pub fn reply(closed: &Closed, growth: &mut Growth, groups: &mut Groups, question: Question) -> Reply
+pub(crate) fn reply(
+    closed: &Closed,
+    growth: &mut Growth,
+    groups: &mut Groups,
+    question: Question,
+) -> Reply
     requires replying { Replying closed.now growth.old groups.old }
     requires names { Asks growth.old.n (query_of question) }
     ensures told { ReplyTold growth.old.n (Held growth.old.n closed.now groups.old)

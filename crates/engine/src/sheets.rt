@@ -14,7 +14,7 @@ use selections::Groups;
 use sheet::Accepted;
 
 // Writes one reply a question; table and groups are then as they were.
-pub fn reply_all(
+pub(crate) fn reply_all(
     sheet: &[u8],
     accepted: Accepted,
     closed: &Closed,

@@ -32,7 +32,7 @@ Judges b facts work replies (Err r) = r.at ≤ longest
 module _ (b : List ℕ) (facts work replies : ℕ) where
   buffers_judged : (a : Accepted) → read_sheet b ≡ Ok a
       → Judges b facts work replies (lent_to a facts work replies)
-  unfolding lent_to short_table short_replies pick
+  unfolding short_table short_replies pick
   buffers_judged a e =
       decided (less facts (table_size a.header) || less work (table_size a.header)) (λ p. rw p (omega arith)) λ p.
       decided (less replies (reply_count a.header)) (λ q. rw (p, q) (omega arith)) λ q.

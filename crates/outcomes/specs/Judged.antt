@@ -9,7 +9,7 @@ use Rattle.sheet.specs.declared.whole.Accepted.{Accepted}
 use Rattle.sheet.specs.Sheets.{read_sheet}
 
 -- rows 8 and 9, behind the whole sheet: either table too short for it, then the reply buffer
-unfoldable pub lent_to : Accepted → ℕ → ℕ → ℕ → Result Accepted Refusal
+abbrev pub lent_to : Accepted → ℕ → ℕ → ℕ → Result Accepted Refusal
 lent_to a facts work replies =
     pick (short_table (table_size a.header) facts || short_table (table_size a.header) work) (Err table_refusal)
     (pick (short_replies (reply_count a.header) replies) (Err replies_refusal)

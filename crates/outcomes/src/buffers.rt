@@ -13,7 +13,7 @@ fn refuse(fault: Fault) -> Result<Accepted, Refusal>
 }
 
 // Rows 8 and 9.
-#[tactic(auto, unfolding(crate::specs::Judged::lent_to, fields::specs::Refusals::short_table, fields::specs::Refusals::short_replies, fields::specs::Tests::less, fields::specs::Tests::pick))]
+#[tactic(auto, unfolding(fields::specs::Refusals::short_table, fields::specs::Refusals::short_replies, fields::specs::Tests::less, fields::specs::Tests::pick))]
 fn judge_buffers(
     accepted: Accepted,
     facts: usize,
