@@ -14,10 +14,10 @@ use Rattle.sheet.proofs.Theorems.{accepted_read, asked_replies}
 use Rattle.outcomes.specs.Outcomes.{kind_in}
 use Rattle.outcomes.specs.Judged.{judged}
 use Rattle.outcomes.proofs.Judging.{accepted_fits}
+use Rattle.outcomes.proofs.Serving.{replies_fit, buffers_serve}
 use Rattle.promise.specs.Promise.{IsAccepted, Means}
 use Rattle.promise.proofs.Shown.{question_there, question_below}
 use Rattle.client.specs.Dropping.{MayDrop}
-use Rattle.client.proofs.Buffers.{replies_fit, buffers_serve}
 
 -- a sheet that is accepted asks as many questions as its header says
 pub count_read : (s : List ℕ) {h : Header} → Ok h ≡ header_of s → IsAccepted (read_sheet s)

@@ -1,3 +1,2 @@
--- The buffers that are lent serve every sheet, and the reply decides.
-pub mod Buffers
+-- The reply decides.
 pub mod Dropped

@@ -1,5 +1,5 @@
 -- Replies to questions, and the label stated for a variable.
-use Rattle.std.specs.Prelude.{◌≡◌, ℕ, ◌<◌, Bool, List, [], ◌∷◌, ◌++◌, map, codes, Result, MatchResult}
+use Rattle.std.specs.Prelude.{◌≡◌, ℕ, ◌<◌, Bool, List, [], ◌∷◌, ◌++◌, map, Result, MatchResult}
 use Rattle.std.proofs.Math.Option.{Option}
 use Rattle.fields.specs.Tests.{same, pick}
 use Rattle.items.specs.declared.items.Statement.{Statement}
@@ -48,12 +48,6 @@ reply_number Reply.Open = 2
 -- the reply that a byte stands for, or that it stands for none
 abbrev pub IsReplyByte : ℕ → Result Reply NoReply → Type 0
 IsReplyByte byte r = MatchResult r (λ reply. reply_number reply ≡ byte) (λ none. (none.0 ≡ byte) × (2 < byte))
-
--- the word of each reply
-abbrev pub reply_word : Reply → List ℕ
-reply_word Reply.Always = codes "always"
-reply_word Reply.Never = codes "never"
-reply_word Reply.Open = codes "open"
 
 -- the label stated for i, the first where there are more
 unfoldable pub stated_label : List Statement → ℕ → Option ℕ

@@ -1,8 +1,6 @@
 // The answer to a question of a consistent sheet.
-ghost use Rattle.std.specs.Prelude.{◌≡◌, Some};
-ghost use Rattle.rules.specs.Replies.{reply_number, reply_word, IsReplyByte};
-
-use std::fmt;
+ghost use Rattle.std.specs.Prelude.{◌≡◌};
+ghost use Rattle.rules.specs.Replies.{reply_number, IsReplyByte};
 
 #[derive(Clone, Copy, Debug, PartialEq, Eq)]
 pub enum Reply {
@@ -41,18 +39,5 @@ impl TryFrom<u8> for Reply {
             2 => Ok(Reply::Open),
             _ => Err(NoReply(byte)),
         }
-    }
-}
-
-// Its word, as it is printed.
-impl fmt::Display for Reply {
-    ghost output = { λ reply. Some (reply_word reply) };
-
-    fn fmt<W: fmt::Write>(&self, f: &mut fmt::Formatter<W>) -> fmt::Result {
-        f.write_str(match self {
-            Reply::Always => "always",
-            Reply::Never => "never",
-            Reply::Open => "open",
-        })
     }
 }

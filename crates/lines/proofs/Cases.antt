@@ -1,0 +1,41 @@
+-- Worked texts: what is printed of a sheet's bytes, and of a clash and a refusal.
+use Rattle.std.specs.Prelude.{codes}
+use Rattle.std.specs.List.{concat}
+use Prim.Native.Nat.{ℕ}
+use mathlib.Core.List.{List, [], ◌∷◌}
+use mathlib.Core.Option.{some, none}
+use mathlib.Core.Path.{◌≡◌, refl}
+use Rattle.numerals.specs.Numerals.{numeral, digits_within}
+use Rattle.fields.specs.declared.refusals.Fault.{Fault}
+use Rattle.fields.specs.Fields.{variable}
+use Rattle.rules.specs.Cases.{Case, table, worked, AllWorked, ◌next◌}
+use Rattle.rules.proofs.Cases.{table_holds}
+use Rattle.outcomes.specs.declared.outcomes.Outcome.{Outcome}
+use Rattle.lines.specs.Lines.{outcome_line, var_line, ask_line, other_lines, lines_of, printed}
+use Rattle.lines.proofs.Rows.{first, of_row}
+
+-- C2, the second row of the rules' worked cases: 2 ≤ 0, 2[1]3, 5(0), 6(1); asked 2 ≤ 0, 2 ≤ 1, 0 ~ 1
+abbrev pub c2 : List ℕ
+c2 =
+    7 ∷ 4 ∷ 0 ∷ 3 ∷ 0 ∷ 3
+    ∷ 5 ∷ 2 ∷ 0 ∷ 0 ∷ 1 ∷ 3 ∷ 8 ∷ 0 ∷ 0 ∷ 5 ∷ 8 ∷ 1 ∷ 0 ∷ 6 ∷ 1 ∷ 2 ∷ 0
+    ∷ 1 ∷ 2 ∷ 1 ∷ 2 ∷ 0 ∷ 1 ∷ []
+
+second : {c d : Case} {cases : List Case} → AllWorked (c ∷ (d ∷ cases)) → worked d.bytes ≡ d
+second (p next (q next others)) = q
+
+pub consistent_text : concat (printed c2)
+    ≡ codes "consistent 4 5 6\nvar 0 5\nvar 1 6\nvar 2 -\nvar 3 -\nask 0 always\nask 1 open\nask 2 never\n"
+unfolding table outcome_line var_line ask_line other_lines numeral digits_within
+consistent_text =
+    rw (of_row c2 4 5 6 (some 5 ∷ some 6 ∷ none ∷ none ∷ []) (0 ∷ 2 ∷ 1 ∷ []) (second table_holds)) refl
+
+-- variable 0 clashes with variable 1
+pub clash_text : concat (lines_of 3 (Outcome.Clash (variable 0) (variable 1)) (first []) []) ≡ codes "clash 0 1\n"
+unfolding outcome_line other_lines numeral digits_within
+clash_text = refl
+
+-- a byte behind the longest sheet
+pub refused_text : concat (lines_of 0 (Outcome.Refused Fault.Trailing 14342) (first []) []) ≡ codes "refused 7 14342\n"
+unfolding outcome_line other_lines numeral digits_within
+refused_text = refl

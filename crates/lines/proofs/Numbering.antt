@@ -1,0 +1,123 @@
+-- How many lines there are, and which stands at which number.
+use Rattle.std.specs.Prelude.{get_or}
+use Rattle.std.specs.List.{range_with_len, enumerate_from}
+use Rattle.std.proofs.lemmas.List.{get_or_append_left, get_or-append_right, get_or-map, length-append, length-map}
+use Rattle.std.proofs.lemmas.List.FromFn.{length-range_with_len, get_or-map-range_with_len}
+use Rattle.std.proofs.lemmas.List.FromFn.{length-enumerate_from, get_or-enumerate_from}
+use Prim.Native.Nat.{ℕ, zero, suc, ◌+◌, ◌-◌, ◌<◌, ◌≤◌}
+use lib.ListN.{length}
+use mathlib.Core.List.{List, [], map}
+use mathlib.Core.Option.{Option}
+use mathlib.Core.Path.{◌≡◌, refl, ap, ◌∙◌}
+use native.Mathlib.Omega.{arith}
+use Rattle.fields.specs.declared.numbers.Variable.{Variable}
+use Rattle.fields.specs.declared.refusals.Fault.{Fault}
+use Rattle.rules.specs.declared.replies.Reply.{Reply}
+use Rattle.outcomes.specs.declared.outcomes.Outcome.{Outcome}
+use Rattle.lines.specs.declared.printout.Printout.{Printout}
+use Rattle.lines.specs.Lines.{outcome_line, var_line, ask_line, other_lines, lines_of}
+use Rattle.lines.specs.Printouts.{reply_told, labels_in, replies_in, lines_in}
+
+module _ (n : ℕ) (labels : ℕ → Option ℕ) (replies : List Reply) where
+  abbrev of_variables : List (List ℕ)
+  of_variables = map (var_line labels) (range_with_len 0 n)
+
+  abbrev of_questions : List (List ℕ)
+  of_questions = map (λ asked. ask_line asked.0 asked.1) (enumerate_from 0 replies)
+
+  variables_count : length of_variables ≡ n
+  variables_count = length-map (range_with_len 0 n) (var_line labels) ∙ length-range_with_len 0 n
+
+  questions_count : length of_questions ≡ length replies
+  questions_count = length-map (enumerate_from 0 replies) _ ∙ length-enumerate_from 0 replies
+
+  -- on a consistent sheet a line for each variable and question behind the first, else none
+  lines_count : (o c : ℕ) → length (lines_of n (Outcome.Consistent o c) labels replies) ≡ 1 + n + length replies
+  unfolding other_lines
+  lines_count o c =
+      omega (arith, length-append of_variables of_questions, variables_count, questions_count)
+
+  -- a line behind the first is that of a variable,
+  at_variable : (o : Outcome) (k : ℕ) → k < length (lines_of n o labels replies) → 0 < k → k ≤ n
+      → get_or (lines_of n o labels replies) k [] ≡ var_line labels (k - 1)
+  unfolding other_lines
+  at_variable o zero h some few = absurd (omega arith)
+  at_variable (Outcome.Clash i j) (suc k) h some few = absurd (omega arith)
+  at_variable (Outcome.Refused f at) (suc k) h some few = absurd (omega arith)
+  at_variable (Outcome.Consistent o c) (suc k) h some few =
+      let e : suc k - 1 ≡ k = omega arith in
+      rw e (
+      get_or_append_left of_variables of_questions [] k (omega (arith, variables_count))
+      ∙ get_or-map-range_with_len (var_line labels) 0 n k k [] (omega arith) (omega arith))
+
+  -- or that of a question
+  at_question : (o : Outcome) (k : ℕ) → k < length (lines_of n o labels replies) → n < k
+      → get_or (lines_of n o labels replies) k [] ≡ ask_line (k - 1 - n) (get_or replies (k - 1 - n) Reply.Open)
+  unfolding other_lines
+  at_question o zero h many = absurd (omega arith)
+  at_question (Outcome.Clash i j) (suc k) h many = absurd (omega arith)
+  at_question (Outcome.Refused f at) (suc k) h many = absurd (omega arith)
+  at_question (Outcome.Consistent o c) (suc k) h many =
+      let e : suc k - 1 ≡ k = omega arith in
+      let here : k - n < length replies =
+      omega (arith, h, length-append of_variables of_questions, variables_count, questions_count) in
+      let from : 0 + (k - n) ≡ k - n = omega arith in
+      rw e (
+      get_or-append_right of_variables of_questions n k [] variables_count (omega arith)
+      ∙ get_or-map (λ asked. ask_line asked.0 asked.1) (enumerate_from 0 replies) (k - n) (0, Reply.Open) []
+      (omega (arith, here, length-enumerate_from 0 replies))
+      ∙ ap (λ asked. ask_line asked.0 asked.1) (get_or-enumerate_from 0 replies (k - n) (0, Reply.Open) here)
+      ∙ ap (λ q. ask_line q (get_or replies (k - n) Reply.Open)) from)
+
+  -- and there only one of a consistent sheet
+  is_question : (o : Outcome) (k : ℕ) → k < length (lines_of n o labels replies) → n < k
+      → k - 1 - n < length replies
+  unfolding other_lines
+  is_question (Outcome.Clash i j) k h many = absurd (omega arith)
+  is_question (Outcome.Refused f at) k h many = absurd (omega arith)
+  is_question (Outcome.Consistent o c) k h many = omega (arith, h, lines_count o c)
+
+-- of a printout
+module _ (p : Printout) where
+  pub consistent_count : (o c : ℕ) → p.outcome ≡ Outcome.Consistent o c
+      → length (lines_in p) ≡ 1 + p.variables + length p.replies.now
+  unfolding lines_in
+  consistent_count o c e =
+      rw e (omega (arith, lines_count p.variables (labels_in p) (replies_in p) o c, length-map p.replies.now reply_told))
+
+  pub clash_count : (i j : Variable) → p.outcome ≡ Outcome.Clash i j → length (lines_in p) ≡ 1
+  unfolding lines_in other_lines
+  clash_count i j e = rw e refl
+
+  pub refused_count : (fault : Fault) (at : ℕ) → p.outcome ≡ Outcome.Refused fault at → length (lines_in p) ≡ 1
+  unfolding lines_in other_lines
+  refused_count fault at e = rw e refl
+
+  pub first_at : get_or (lines_in p) 0 [] ≡ outcome_line p.variables p.outcome
+  unfolding lines_in
+  first_at = refl
+
+  module _ (k : ℕ) (there : k < length (lines_in p)) where
+    pub variable_at : 0 < k → k ≤ p.variables → get_or (lines_in p) k [] ≡ var_line (labels_in p) (k - 1)
+    unfolding lines_in
+    variable_at some few = at_variable p.variables (labels_in p) (replies_in p) p.outcome k there some few
+
+    module _ (many : p.variables < k) where
+      pub question_there : k - 1 - p.variables < length p.replies.now
+      unfolding lines_in
+      question_there =
+          omega (
+            arith,
+            is_question p.variables (labels_in p) (replies_in p) p.outcome k there many,
+            length-map p.replies.now reply_told,
+          )
+
+      pub question_at : (d : ℕ) → get_or (lines_in p) k []
+          ≡ ask_line (k - 1 - p.variables) (reply_told (get_or p.replies.now (k - 1 - p.variables) d))
+      unfolding lines_in
+      question_at d =
+          at_question p.variables (labels_in p) (replies_in p) p.outcome k there many
+          ∙ ap (ask_line (k - 1 - p.variables)) (
+          get_or-map reply_told p.replies.now (k - 1 - p.variables) d Reply.Open question_there)
+
+pub ruleset which_line = (consistent_count, clash_count, refused_count, first_at, variable_at, question_there, question_at)

@@ -1,0 +1,14 @@
+-- What a check of any bytes leaves to be printed, where the lent buffers are long enough.
+use Rattle.std.specs.Prelude.{ℕ, length, List, ◌≡◌}
+use Rattle.sheet.specs.Headers.{most_replies}
+use Rattle.sheet.specs.Sheets.{read_sheet, sheet_of}
+use Rattle.outcomes.specs.declared.outcomes.Outcome.{Outcome}
+use Rattle.promise.specs.Checks.{written, replies_after}
+use Rattle.lines.specs.Lines.{outcome_told}
+
+-- the outcome, and a reply buffer over what was in it before
+pub record Told (b : List ℕ) (o : Outcome) (replies : List ℕ) : Type 0 where
+  pub before : List ℕ
+  pub outcome : o ≡ outcome_told b
+  pub replied : replies ≡ written (read_sheet b) (sheet_of b) replies_after before
+  pub room : length replies ≡ most_replies

@@ -1,0 +1,2 @@
+-- Numbers as text in base ten.
+pub mod Numerals

@@ -1,0 +1,2 @@
+-- Known bytes of readers and writers.
+mod Streams

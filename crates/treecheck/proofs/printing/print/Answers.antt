@@ -1,0 +1,7 @@
+-- What the check tells and leaves is printed.
+use Rattle.std.proofs.Common.{arith}
+use Rattle.lines.proofs.Checked.{told_of_check}
+use Rattle.treecheck.proofs.printing.print.Goals as goal
+
+pub printout-requires : goal.printout-requires
+printout-requires g c = told_of_check _ c.check-outcome.ensures.checked (omega arith) (omega arith) (omega arith) (omega arith)
