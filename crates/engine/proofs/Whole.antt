@@ -1,7 +1,7 @@
 -- From parts of the lent buffers to the buffers.
 use Rattle.std.specs.Prelude.{Ok, Err}
 use Prim.Native.Nat.{ℕ, ◌≤◌}
-use lib.ListN.{length, take, drop, replicate, length-replicate, take-append-drop, length-map}
+use lib.ListN.{length, take, drop, replicate, length-replicate, take-append-drop}
 use lib.Seq.{length-take-le}
 use mathlib.Core.List.{List, ◌++◌, map}
 use mathlib.Core.Path.{◌≡◌, refl, sym, ◌∙◌}
@@ -14,10 +14,11 @@ use Rattle.rules.specs.declared.verdicts.Verdict.{Verdict}
 use Rattle.rules.specs.Derived.{facts_of}
 use Rattle.rules.specs.Tables.{table_bytes}
 use Rattle.rules.specs.Verdicts.{verdict_of}
-use Rattle.rules.specs.Replies.{replies_of, reply_to, reply_number}
+use Rattle.rules.specs.Replies.{replies_of, reply_number}
 use Rattle.rules.proofs.Tables.{table_length}
 use Rattle.outcomes.specs.declared.outcomes.Outcome.{Outcome}
 use Rattle.outcomes.specs.Judged.{judged}
+use Rattle.promise.proofs.Shown.{byte_each}
 use Rattle.promise.specs.Checks.{outcome_of, of_refusal, over, where_consistent, Checked}
 use Rattle.engine.specs.Steps.{Accepting, Filled}
 use Rattle.outcomes.proofs.Judging.{Fits, accepted_fits}
@@ -81,11 +82,7 @@ module _ (b facts work replies : List ℕ) {a : Accepted}
   bytes_size = table_length (sheet_of b).n _ ∙ sheet_size
 
   replies_size : length (map reply_number (replies_of (sheet_of b))) ≡ reply_count a.header
-  unfolding replies_of
-  replies_size =
-      length-map (map (reply_to (sheet_of b)) (sheet_of b).asked) reply_number
-      ∙ length-map (sheet_of b).asked (reply_to (sheet_of b))
-      ∙ asked_replies b a fits.accepted
+  replies_size = byte_each (sheet_of b) ∙ asked_replies b a fits.accepted
 
   pub checked_accepted : {facts' work' replies' : List ℕ} {o : Outcome} (size count : ℕ) → size ≡ table_size a.header
       → count ≡ reply_count a.header → Filled (sheet_of b) (take size work) (take count replies) facts' work' replies' o

@@ -1,6 +1,6 @@
 -- The printout of a checked sheet has the lines of the sheet.
 use Rattle.std.specs.Prelude.{Result, Ok, Err, take}
-use Rattle.std.proofs.lemmas.List.{take_at, length-map}
+use Rattle.std.proofs.lemmas.List.{take_at}
 use Prim.Native.Nat.{ℕ, ◌≤◌}
 use lib.ListN.{length}
 use mathlib.Core.List.{List, [], ◌∷◌, map}
@@ -19,13 +19,14 @@ use Rattle.rules.specs.declared.replies.Reply.{Reply}
 use Rattle.rules.specs.declared.verdicts.Verdict.{Verdict}
 use Rattle.rules.specs.Facts.{Relation}
 use Rattle.rules.specs.Derived.{facts_of}
-use Rattle.rules.specs.Replies.{replies_of, reply_number, reply_to, stated_label}
+use Rattle.rules.specs.Replies.{replies_of, reply_number, stated_label}
 use Rattle.rules.specs.Verdicts.{verdict_of}
 use Rattle.outcomes.specs.declared.outcomes.Outcome.{Outcome}
 use Rattle.outcomes.specs.Closed.{outcome_by}
 use Rattle.outcomes.specs.Judged.{judged}
 use Rattle.outcomes.proofs.Serving.{buffers_serve}
 use Rattle.promise.specs.Checks.{of_refusal, sheet_outcome, outcome_of, where_consistent, over, written, replies_after, Checked}
+use Rattle.promise.proofs.Shown.{byte_each}
 use Rattle.lines.specs.Lines.{outcome_line, other_lines, lines_of, printed}
 use Rattle.lines.specs.Printouts.{reply_told}
 use Rattle.lines.specs.Told.{Told}
@@ -50,7 +51,7 @@ refused_alone q n n' labels labels' rs rs' = refl
 
 -- what is left in the reply buffer of a sheet has the lines of its replies, if there is one byte for each
 by_verdict : (v : Verdict) (n count : ℕ) (r : Relation) (labels : ℕ → Option ℕ) (rs : List Reply) (buffer : List ℕ)
-    → length rs ≡ count
+    → length (map reply_number rs) ≡ count
     → lines_of n (outcome_by n r v) labels
     (map reply_told (take count (where_consistent v (over (map reply_number rs) buffer) buffer)))
     ≡ lines_of n (outcome_by n r v) labels rs
@@ -58,13 +59,9 @@ unfolding where_consistent other_lines
 by_verdict (Verdict.Clash c) n count r labels rs buffer e = refl
 by_verdict Verdict.Consistent n count r labels rs buffer e =
     ap (lines_of n (outcome_by n r Verdict.Consistent) labels) (
-    ap (map reply_told) (take_at (map reply_number rs) _ count (length-map rs reply_number ∙ e)) ∙ replies_back rs)
+    ap (map reply_told) (take_at (map reply_number rs) _ count e) ∙ replies_back rs)
 
 module _ (b : List ℕ) where
-  reply_each : (a : Accepted) → read_sheet b ≡ Ok a → length (replies_of (sheet_of b)) ≡ reply_count a.header
-  unfolding replies_of
-  reply_each a e = length-map (sheet_of b).asked (reply_to (sheet_of b)) ∙ asked_replies b a e
-
   -- however the sheet is read, a printout over its header has its lines
   by_reading : (h : Header) → header_of b ≡ Ok h → (before : List ℕ) (r : Result Accepted Refusal) → read_sheet b ≡ r
       → lines_of h.variables (then_value r of_refusal λ a. sheet_outcome (sheet_of b)) (stated_label (sheet_of b).stated)
@@ -78,7 +75,8 @@ module _ (b : List ℕ) where
       let same : a.header ≡ h = cc in
       let s = sheet_of b in
       rw (← same, ← accepted_variables b a e)
-      (by_verdict (verdict_of s) s.n _ (facts_of s.stated s.n) (stated_label s.stated) (replies_of s) before (reply_each a e))
+      (by_verdict (verdict_of s) s.n _ (facts_of s.stated s.n) (stated_label s.stated) (replies_of s) before
+      (byte_each s ∙ asked_replies b a e))
 
   module _ {o : Outcome} {replies : List ℕ} (left : Told b o replies) where
     -- a sheet without a header that can be read

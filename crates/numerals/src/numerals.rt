@@ -25,9 +25,9 @@ pub fn write_numeral(n: u64, out: &mut [u8]) -> usize
     ensures length { result ≡ length (numeral n) }
     ensures written { out.new ≡ numeral n ++ drop (length (numeral n)) out.old }
 {
-    let count = numeral_length(n);
-    fill(n, &mut out[..count]);
-    count
+    let length = numeral_length(n);
+    fill(n, &mut out[..length]);
+    length
 }
 
 // Fills a part with the numeral of a number, from the last digit to the first.

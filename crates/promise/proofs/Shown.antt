@@ -94,6 +94,11 @@ small_number Fault.Trailing = omega arith
 small_number Fault.ShortTable = omega arith
 small_number Fault.ShortReplies = omega arith
 
+-- a byte for each question
+pub byte_each : (s : Sheet) → length (map reply_number (replies_of s)) ≡ length s.asked
+unfolding replies_of
+byte_each s = length-map (map (reply_to s) s.asked) reply_number ∙ length-map s.asked (reply_to s)
+
 always_supported : (s : Sheet) (q : Query) → (reply_to s q ≡ Reply.Always) ↔ Supported s q
 always_supported s (holds x) = (replied s (holds x)).always
 
@@ -160,19 +165,13 @@ module _ {b facts work replies facts' work' replies' : List ℕ} {r : ℕ}
     unfolding replies_of
     reply_byte k q at = rw replies_written (reply_at (reply_to (sheet_of b)) _ (sheet_of b).asked k q at)
 
-    replies_size : length (map reply_number (replies_of (sheet_of b))) ≡ length (sheet_of b).asked
-    unfolding replies_of
-    replies_size =
-        length-map (map (reply_to (sheet_of b)) (sheet_of b).asked) reply_number
-        ∙ length-map (sheet_of b).asked (reply_to (sheet_of b))
-
     pub one_reply_each : OneReplyEach (sheet_of b) replies replies'
     one_reply_each =
         record {
           each = λ k h.
               let q = question_there (sheet_of b).asked k h in
               rw (reply_byte k q.0 q.1) (number_small (reply_to (sheet_of b) q.0));
-          others = rw replies_written (drop-append-drop _ replies _ _ (omega (arith, replies_size)) refl);
+          others = rw replies_written (drop-append-drop _ replies _ _ (omega (arith, byte_each (sheet_of b))) refl);
         }
 
   -- where the sheet is consistent, a reply is always exactly where what is asked is supported

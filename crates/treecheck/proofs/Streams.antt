@@ -15,7 +15,7 @@ use native.Mathlib.Omega.{arith}
 use Rattle.sheet.specs.Sheets.{longest}
 use Rattle.lines.specs.Lines.{printed}
 use Rattle.lines.proofs.Beyond.{beyond_printed}
-use Rattle.treecheck.specs.Writing.{Begins, Written}
+use Rattle.treecheck.specs.Writing.{Begins, AppendsOrBegins}
 
 -- all that is read up to a limit
 taken : (k : ℕ) (items : List ℕ) (left : Option (List ℕ))
@@ -104,7 +104,7 @@ module _ (old now new : Option (List ℕ)) (before bytes rest text : List ℕ) w
       (length before + n, appends_more old now new before (take k bytes) _ sent h first)
 
   pub failed : {E : Type 0} (r : Result (Unit {0}) E) → IsErr r → text ≡ before ++ (bytes ++ rest) → Appends old now before
-      → Begins now new bytes → Written old new text r
+      → Begins now new bytes → AppendsOrBegins old new text r
   failed (Err e) is_err is sent some = begins is sent some
   failed (Ok u) is_err is sent some = absurd (false≢true is_err)
 

@@ -10,9 +10,9 @@ abbrev pub Begins : Option (List ℕ) → Option (List ℕ) → List ℕ → Typ
 Begins old new text = (k : ℕ) × Appends old new (take k text)
 
 -- known bytes grow by a text, or where a write failed by a beginning of it
-abbrev pub Written : {E : Type 0} → Option (List ℕ) → Option (List ℕ) → List ℕ → Result (Unit {0}) E → Type 0
-Written old new text (Ok done) = Appends old new text
-Written old new text (Err error) = Begins old new text
+abbrev pub AppendsOrBegins : {E : Type 0} → Option (List ℕ) → Option (List ℕ) → List ℕ → Result (Unit {0}) E → Type 0
+AppendsOrBegins old new text (Ok done) = Appends old new text
+AppendsOrBegins old new text (Err error) = Begins old new text
 
 -- of a known input all lines are written; where writing failed a beginning of them, and where reading failed nothing
 abbrev pub Reported : {W : Type 0} → (W → Option (List ℕ)) → Option (List ℕ) → W → W → Result (Unit {0}) Failure → Type 0

@@ -4,7 +4,7 @@ ghost use Rattle.std.specs.List.{concat};
 ghost use Rattle.lines.specs.Lines.{printed};
 ghost use Rattle.lines.specs.Printouts.{lines_in};
 ghost use Rattle.lines.specs.Told.{Told};
-ghost use Rattle.treecheck.specs.Writing.{Written};
+ghost use Rattle.treecheck.specs.Writing.{AppendsOrBegins};
 
 use crate::writing::write_bytes;
 use engine::{LARGEST_TABLE, MOST_REPLIES, Outcome};
@@ -37,7 +37,7 @@ fn printout<'a>(sheet: &'a [u8], outcome: Outcome, replies: &'a [u8]) -> Printou
 
 // Writes all lines of a printout.
 fn print_lines<W: Write>(printout: &Printout, out: &mut W) -> io::Result<()>
-    ensures { Written (W.contents out.old) (W.contents out.new) (concat (lines_in printout.now)) result }
+    ensures { AppendsOrBegins (W.contents out.old) (W.contents out.new) (concat (lines_in printout.now)) result }
 {
     let mut bytes = [0; BLOCK_SIZE];
     let mut next = 0;
@@ -51,7 +51,7 @@ fn print_lines<W: Write>(printout: &Printout, out: &mut W) -> io::Result<()>
 
 // Checks a sheet, and writes all lines of its outcome.
 pub fn print<W: Write>(sheet: &[u8], out: &mut W) -> io::Result<()>
-    ensures { Written (W.contents out.old) (W.contents out.new) (concat (printed sheet.now)) result }
+    ensures { AppendsOrBegins (W.contents out.old) (W.contents out.new) (concat (printed sheet.now)) result }
 {
     let mut facts = [0; LARGEST_TABLE];
     let mut work = [0; LARGEST_TABLE];

@@ -4,22 +4,13 @@ ghost use Rattle.treecheck.specs.Writing.{Reported};
 use crate::printing::print;
 use crate::reading::read_sheet;
 use std::alloc::Global;
-use std::fmt;
 use std::io::{self, Read, Write};
 
+// What failed, and why.
 #[derive(Drop)]
 pub enum Failure {
     Reading(io::Error),
     Writing(io::Error),
-}
-
-impl fmt::Display for Failure {
-    fn fmt<W: fmt::Write>(&self, f: &mut fmt::Formatter<W>) -> fmt::Result {
-        match self {
-            Failure::Reading(error) => write!(f, "the sheet cannot be read: {error}"),
-            Failure::Writing(error) => write!(f, "the outcome cannot be written: {error}"),
-        }
-    }
 }
 
 // Reads a sheet, checks it, and writes all lines of its outcome; nothing is written where it cannot be read.

@@ -1,7 +1,7 @@
 // Bytes that are written, as many as are taken before a write fails. No write_all: of that it is not known how many were.
 ghost use Rattle.std.specs.Io.{WritesAtMost};
 ghost use Rattle.std.specs.Io.KnownBytes.{WriteAppends};
-ghost use Rattle.treecheck.specs.Writing.{Written};
+ghost use Rattle.treecheck.specs.Writing.{AppendsOrBegins};
 
 use std::io::{self, ErrorKind, Write};
 
@@ -27,7 +27,7 @@ fn write_some<W: Write>(bytes: &[u8], out: &mut W) -> io::Result<usize>
 // Writes all bytes, or as many as are taken before a write fails.
 #[tactic(auto, using(crate::proofs::Streams::sending))]
 pub fn write_bytes<W: Write>(bytes: &[u8], out: &mut W) -> io::Result<()>
-    ensures { Written (W.contents out.old) (W.contents out.new) bytes.now result }
+    ensures { AppendsOrBegins (W.contents out.old) (W.contents out.new) bytes.now result }
 {
     let mut rest = bytes;
     // as good as forever: a write may be interrupted again and again
