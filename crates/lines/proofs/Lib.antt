@@ -2,6 +2,7 @@
 -- their text tells.
 pub mod Cases
 pub mod Rows
+pub mod Runs
 pub mod Numbering
 pub mod Fitting
 pub mod Following

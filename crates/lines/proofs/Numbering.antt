@@ -1,12 +1,9 @@
 -- How many lines there are, and which stands at which number.
 use Rattle.std.specs.Prelude.{get_or}
-use Rattle.std.specs.List.{range_with_len, enumerate_from}
-use Rattle.std.proofs.lemmas.List.{get_or_append_left, get_or-append_right, get_or-map, length-append, length-map}
-use Rattle.std.proofs.lemmas.List.FromFn.{length-range_with_len, get_or-map-range_with_len}
-use Rattle.std.proofs.lemmas.List.FromFn.{length-enumerate_from, get_or-enumerate_from}
+use Rattle.std.proofs.lemmas.List.{get_or-map, length-map}
 use Prim.Native.Nat.{ℕ, zero, suc, ◌+◌, ◌-◌, ◌<◌, ◌≤◌}
 use lib.ListN.{length}
-use mathlib.Core.List.{List, [], map}
+use mathlib.Core.List.{List, []}
 use mathlib.Core.Option.{Option}
 use mathlib.Core.Path.{◌≡◌, refl, ap, ◌∙◌}
 use native.Mathlib.Omega.{arith}
@@ -16,26 +13,17 @@ use Rattle.rules.specs.declared.replies.Reply.{Reply}
 use Rattle.outcomes.specs.declared.outcomes.Outcome.{Outcome}
 use Rattle.lines.specs.declared.printout.Printout.{Printout}
 use Rattle.lines.specs.Lines.{outcome_line, var_line, ask_line, other_lines, lines_of}
+use Rattle.lines.proofs.Runs.{runs_count, variable_in, question_in}
 use Rattle.lines.specs.Printouts.{reply_told, labels_in, replies_in, lines_in}
 
 module _ (n : ℕ) (labels : ℕ → Option ℕ) (replies : List Reply) where
-  abbrev of_variables : List (List ℕ)
-  of_variables = map (var_line labels) (range_with_len 0 n)
-
-  abbrev of_questions : List (List ℕ)
-  of_questions = map (λ asked. ask_line asked.0 asked.1) (enumerate_from 0 replies)
-
-  variables_count : length of_variables ≡ n
-  variables_count = length-map (range_with_len 0 n) (var_line labels) ∙ length-range_with_len 0 n
-
-  questions_count : length of_questions ≡ length replies
-  questions_count = length-map (enumerate_from 0 replies) _ ∙ length-enumerate_from 0 replies
+  abbrev question_line : ℕ × Reply → List ℕ
+  question_line asked = ask_line asked.0 asked.1
 
   -- on a consistent sheet a line for each variable and question behind the first, else none
   lines_count : (o c : ℕ) → length (lines_of n (Outcome.Consistent o c) labels replies) ≡ 1 + n + length replies
   unfolding other_lines
-  lines_count o c =
-      omega (arith, length-append of_variables of_questions, variables_count, questions_count)
+  lines_count o c = omega (arith, runs_count (var_line labels) question_line n replies)
 
   -- a line behind the first is that of a variable,
   at_variable : (o : Outcome) (k : ℕ) → k < length (lines_of n o labels replies) → 0 < k → k ≤ n
@@ -46,9 +34,7 @@ module _ (n : ℕ) (labels : ℕ → Option ℕ) (replies : List Reply) where
   at_variable (Outcome.Refused f at) (suc k) h some few = absurd (omega arith)
   at_variable (Outcome.Consistent o c) (suc k) h some few =
       let e : suc k - 1 ≡ k = omega arith in
-      rw e (
-      get_or_append_left of_variables of_questions [] k (omega (arith, variables_count))
-      ∙ get_or-map-range_with_len (var_line labels) 0 n k k [] (omega arith) (omega arith))
+      rw e (variable_in (var_line labels) question_line n replies k [] (omega arith))
 
   -- or that of a question
   at_question : (o : Outcome) (k : ℕ) → k < length (lines_of n o labels replies) → n < k
@@ -59,15 +45,8 @@ module _ (n : ℕ) (labels : ℕ → Option ℕ) (replies : List Reply) where
   at_question (Outcome.Refused f at) (suc k) h many = absurd (omega arith)
   at_question (Outcome.Consistent o c) (suc k) h many =
       let e : suc k - 1 ≡ k = omega arith in
-      let here : k - n < length replies =
-      omega (arith, h, length-append of_variables of_questions, variables_count, questions_count) in
-      let from : 0 + (k - n) ≡ k - n = omega arith in
-      rw e (
-      get_or-append_right of_variables of_questions n k [] variables_count (omega arith)
-      ∙ get_or-map (λ asked. ask_line asked.0 asked.1) (enumerate_from 0 replies) (k - n) (0, Reply.Open) []
-      (omega (arith, here, length-enumerate_from 0 replies))
-      ∙ ap (λ asked. ask_line asked.0 asked.1) (get_or-enumerate_from 0 replies (k - n) (0, Reply.Open) here)
-      ∙ ap (λ q. ask_line q (get_or replies (k - n) Reply.Open)) from)
+      let here = runs_count (var_line labels) question_line n replies in
+      rw e (question_in (var_line labels) question_line n replies k [] (omega arith) (omega (arith, h, here)))
 
   -- and there only one of a consistent sheet
   is_question : (o : Outcome) (k : ℕ) → k < length (lines_of n o labels replies) → n < k

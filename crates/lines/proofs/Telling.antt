@@ -2,12 +2,10 @@
 use Rattle.std.specs.Prelude.{codes, get_or, drop}
 use Rattle.std.specs.List.{All, concat, range_with_len, enumerate_from}
 use Rattle.std.proofs.Common.{rules}
-use Rattle.std.proofs.lemmas.List.{drop_at, map-append, get_or_append_left}
+use Rattle.std.proofs.lemmas.List.{map-append}
 use Rattle.std.proofs.lemmas.List.Elements.{All-nil, All-cons, All-append, All-map}
-use Rattle.std.proofs.lemmas.List.FromFn.{length-map-range_with_len, get_or-map-range_with_len}
 use Rattle.std.proofs.lemmas.Simd.{map-map}
 use Prim.Native.Nat.{ℕ, ◌+◌, ◌<◌}
-use lib.ListN.{length}
 use mathlib.Core.List.{List, [], ◌∷◌, ◌++◌, map}
 use mathlib.Core.Path.{◌≡◌, refl, sym, ap, ◌∙◌}
 use native.Mathlib.Omega.{arith}
@@ -20,6 +18,7 @@ use Rattle.rules.specs.Replies.{replies_of, stated_label}
 use Rattle.outcomes.specs.declared.outcomes.Outcome.{Outcome}
 use Rattle.lines.specs.Lines.{line, outcome_line, label_word, reply_word, var_line, ask_line, other_lines, lines_of}
 use Rattle.lines.specs.Alike.{Alike}
+use Rattle.lines.proofs.Runs.{variable_in, questions_from}
 use Rattle.lines.proofs.Words.{Words, same_lines}
 use Rattle.lines.proofs.Spelling.{number_fits, label_fits, same_label, reply_fits, same_reply}
 
@@ -77,18 +76,12 @@ module _ (s : Sheet) where
   all_fit : (o : Outcome) → All Words (words_of o)
   all_fit o = All-cons Words (outcome_words o) (other_words o) (first_fits o) (others_fit o)
 
-  -- those of variable i stand at i,
-  variables_count : length of_variables ≡ s.n
-  variables_count = length-map-range_with_len var_words 0 s.n
+  -- those of variable i stand at i, and from n on those of the questions
+  variable_words : (i : ℕ) → i < s.n → get_or (of_variables ++ of_questions) i [] ≡ var_words i
+  variable_words i h = variable_in var_words ask_words s.n (replies_of s) i [] h
 
-  variable_at : (i : ℕ) → i < s.n → get_or (of_variables ++ of_questions) i [] ≡ var_words i
-  variable_at i h =
-      get_or_append_left of_variables of_questions [] i (omega (arith, variables_count))
-      ∙ get_or-map-range_with_len var_words 0 s.n i i [] h (omega arith)
-
-  -- and from n on those of the questions
-  questions_from : drop s.n (of_variables ++ of_questions) ≡ of_questions
-  questions_from = drop_at of_variables of_questions s.n variables_count
+  question_words : drop s.n (of_variables ++ of_questions) ≡ of_questions
+  question_words = questions_from var_words ask_words s.n (replies_of s)
 
 -- replies are told by their lines
 same_replies : (q : ℕ) (rs ts : List Reply) → map ask_words (enumerate_from q rs) ≡ map ask_words (enumerate_from q ts)
@@ -109,12 +102,12 @@ module _ (s s' : Sheet) where
         second = numeral_injective d d' (cc e);
         variables = λ k. as_many;
         labels = λ k i h.
-            let there = variable_at s' i (omega arith) in
+            let there = variable_words s' i (omega arith) in
             same_label (stated_label s.stated i) (stated_label s'.stated i)
-            (cc (sym (variable_at s i h) ∙ ap (λ x. get_or x i []) (ap (drop 1) e) ∙ there));
+            (cc (sym (variable_words s i h) ∙ ap (λ x. get_or x i []) (ap (drop 1) e) ∙ there));
         replies = λ k.
             same_replies 0 (replies_of s) (replies_of s')
-            (sym (questions_from s) ∙ ap (drop s.n) (ap (drop 1) e) ∙ rw as_many (questions_from s'));
+            (sym (question_words s) ∙ ap (drop s.n) (ap (drop 1) e) ∙ rw as_many (question_words s'));
       }
   same_words (Outcome.Clash i j) (Outcome.Clash i' j') e =
       record {
