@@ -4,4 +4,5 @@ pub mod Ranges
 pub mod Firsts
 pub mod Clashed
 pub mod OneLabel
+pub mod Below
 pub mod Shown

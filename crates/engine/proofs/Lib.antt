@@ -4,4 +4,5 @@ pub mod Answered
 pub mod Going
 pub mod Steps
 pub mod Whole
+pub mod Leaving
 pub mod Meaning

@@ -12,20 +12,18 @@ use Rattle.std.proofs.lemmas.Bool.{both_ways}
 use Rattle.fields.specs.declared.refusals.Refusal.{Refusal}
 use Rattle.sheet.specs.Headers.{size_for}
 use Rattle.items.specs.Questions.{Query}
-use Rattle.items.specs.Statements.{All}
 use Rattle.sheet.specs.declared.whole.Accepted.{Accepted}
 use Rattle.sheet.specs.Sheets.{Sheet, read_sheet, sheet_of}
-use Rattle.sheet.proofs.Theorems.{accepted_sheet, accepted_few}
+use Rattle.sheet.proofs.Theorems.{accepted_few}
 use Rattle.rules.specs.declared.clashes.Clash.{Clash}
 use Rattle.rules.specs.declared.verdicts.Verdict.{Verdict}
-use Rattle.rules.specs.Demand.{Demand2}
 use Rattle.rules.specs.Clashes.{clashes}
 use Rattle.rules.specs.Replies.{fails, reply_to, reply_number}
 use Rattle.rules.specs.Verdicts.{verdict_of}
 use Rattle.rules.proofs.Tables.{table_length}
 use Rattle.trees.specs.Assignments.{Assignment, Counts}
 use Rattle.trees.specs.Demand.{Answers, Demand3}
-use Rattle.trees.proofs.Demands.{demand_2, demand_3, demand_3_asked}
+use Rattle.trees.proofs.Demands.{sheet_2, sheet_3, sheet_asked}
 use Rattle.outcomes.specs.declared.outcomes.Outcome.{Outcome}
 use Rattle.outcomes.specs.Outcomes.{kind_in, first_in, second_in, packed}
 use Rattle.outcomes.proofs.Judging.{accepted_fits}
@@ -45,18 +43,6 @@ byte_means C s q byte e answers =
       never = trans (number_never (reply_to s q)) answers.is_never;
       undecided = trans (number_open (reply_to s q)) answers.is_open;
     }
-
--- demands 2 and 3 of an accepted sheet
-module _ (b : List ℕ) (a : Accepted) (accepted : read_sheet b ≡ Ok a) where
-  sheet_2 : Demand2 (sheet_of b)
-  sheet_2 = rw (accepted_sheet b a accepted) (demand_2 b a accepted)
-
-  sheet_3 : Demand3 (sheet_of b)
-  sheet_3 = rw (accepted_sheet b a accepted) (demand_3 b a accepted)
-
-  sheet_asked : fails (sheet_of b) ≡ false
-      → All (λ q. Answers (Counts (sheet_of b)) q (reply_to (sheet_of b) q)) (sheet_of b).asked
-  sheet_asked = rw (accepted_sheet b a accepted) (demand_3_asked b a accepted)
 
 -- the number of a check that meets its equation
 pub returned_so : {b facts work replies facts' work' replies' : List ℕ} {o : Outcome} {r : ℕ}

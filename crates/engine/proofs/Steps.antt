@@ -5,7 +5,8 @@ use mathlib.Core.List.{List, map}
 use mathlib.Core.Path.{◌≡◌, sym, ap, subst, ◌∙◌}
 use Rattle.items.specs.Statements.{AllName}
 use Rattle.sheet.specs.declared.whole.Accepted.{Accepted}
-use Rattle.sheet.specs.Sheets.{sheet_of}
+use Rattle.std.specs.Prelude.{Ok}
+use Rattle.sheet.specs.Sheets.{read_sheet, sheet_of}
 use Rattle.sheet.proofs.Theorems.{accepted_variables, accepted_stated}
 use Rattle.rules.specs.declared.verdicts.Verdict.{Verdict}
 use Rattle.rules.specs.Derived.{derived}
@@ -19,7 +20,7 @@ use Rattle.answers.specs.Clashes.{ClashTold}
 use Rattle.statements.specs.declared.lists.Lists.{Lists}
 use Rattle.statements.specs.Lists.{Stand}
 use Rattle.closure.specs.declared.closed.Closed.{Closed}
-use Rattle.closure.specs.Making.{Lawful, Made, variables_of, table_of, spreads_of}
+use Rattle.closure.specs.Making.{Made, variables_of, table_of, spreads_of}
 use Rattle.closure.proofs.Theorems.{is_derived_table, clash_is, stands, may_try, one_label_each}
 use Rattle.closure.specs.Trials.{Standing}
 use Rattle.engine.specs.Replying.{Held}
@@ -28,53 +29,44 @@ use Rattle.outcomes.specs.Closed.{outcome_by}
 use Rattle.promise.specs.Checks.{where_consistent}
 use Rattle.engine.specs.Steps.{Accepting, Answering, Filled}
 
--- what an accepted sheet states stands in lists
-module _ {b : List ℕ} {x : Accepted} {facts₀ work replies : List ℕ} (a : Accepting b x facts₀ work replies)
-    {lists : Lists} (l : Stand x.header.variables (sheet_of b).stated lists) where
-  pub lists_lawful : Lawful x.header.variables lists.pairs.items lists.selections.items (length facts₀)
-  lists_lawful =
-      record {
-        lawful_pairs = l.lawful_pairs;
-        lawful_selections = l.lawful_selections;
-        square = a.facts_size;
-      }
+-- what an accepted sheet states stands in lists, and a table is derived from it
+module _ (b : List ℕ) {x : Accepted} (read : read_sheet b ≡ Ok x) {lists : Lists}
+    (l : Stand x.header.variables (sheet_of b).stated lists) {groups : Groups} {t : List ℕ}
+    (made : Made x.header.variables lists.pairs.items lists.selections.items groups t) where
+  sheet_names : AllName x.header.variables (sheet_of b).stated
+  sheet_names = accepted_stated b x read
 
-  -- and the table is derived from it
-  module _ {groups : Groups} {t : List ℕ}
-      (made : Made x.header.variables lists.pairs.items lists.selections.items groups t) where
-    sheet_names : AllName x.header.variables (sheet_of b).stated
-    sheet_names = accepted_stated b x a.questions.accepted
+  pub table_is : t ≡ derived (sheet_of b).stated (sheet_of b).n
+  table_is =
+      rw (accepted_variables b x read)
+      (is_derived_table l.lawful_selections made.grouping made.from sheet_names l.pairs_stand l.selections_stand)
 
-    table_is : t ≡ derived (sheet_of b).stated (sheet_of b).n
-    table_is =
-        rw (accepted_variables b x a.questions.accepted)
-        (is_derived_table l.lawful_selections made.grouping made.from sheet_names l.pairs_stand l.selections_stand)
+  -- what is known of it
+  module _ (c : Closed) (sizes : variables_of c ≡ x.header.variables) (table : table_of c ≡ t)
+      (selections : c.selections.now ≡ lists.selections.items) (labels : spreads_of c ≡ lists.labels.spreads) where
+    clash_told : ClashTold x.header.variables t lists.labels.spreads c.clash
+    clash_told =
+        rw (← table, ← labels)
+        (subst (λ n. ClashTold n (table_of c) (spreads_of c) c.clash) sizes c.told.first)
 
-    -- what is known of it
-    module _ (c : Closed) (sizes : variables_of c ≡ x.header.variables) (table : table_of c ≡ t)
-        (selections : c.selections.now ≡ lists.selections.items) (labels : spreads_of c ≡ lists.labels.spreads) where
-      clash_told : ClashTold x.header.variables t lists.labels.spreads c.clash
-      clash_told =
-          rw (← table, ← labels)
-          (subst (λ n. ClashTold n (table_of c) (spreads_of c) c.clash) sizes c.told.first)
+    clash_is_first : c.clash ≡ clash_of (sheet_of b).stated (sheet_of b).n
+    clash_is_first =
+        rw (accepted_variables b x read)
+        (clash_is l.lawful_selections made.grouping made.from sheet_names l.pairs_stand l.selections_stand
+        l.labelled c.clash clash_told)
 
-      clash_is_first : c.clash ≡ clash_of (sheet_of b).stated (sheet_of b).n
-      clash_is_first =
-          rw (accepted_variables b x a.questions.accepted)
-          (clash_is l.lawful_selections made.grouping made.from sheet_names l.pairs_stand l.selections_stand
-          l.labelled c.clash clash_told)
+    held : Held x.header.variables c groups (sheet_of b).stated
+    held =
+        record {
+          standing =
+              subst (λ u. Standing x.header.variables u groups (spreads_of c) (sheet_of b).stated) (sym table)
+              (subst (λ u. Standing x.header.variables t groups u (sheet_of b).stated) (sym labels)
+              (stands l.lawful_selections made.grouping made.from sheet_names l.pairs_stand l.selections_stand
+              l.labelled));
+          listed = rw selections l.selections_stand;
+        }
 
-      held : Held x.header.variables c groups (sheet_of b).stated
-      held =
-          record {
-            standing =
-                subst (λ u. Standing x.header.variables u groups (spreads_of c) (sheet_of b).stated) (sym table)
-                (subst (λ u. Standing x.header.variables t groups u (sheet_of b).stated) (sym labels)
-                (stands l.lawful_selections made.grouping made.from sheet_names l.pairs_stand l.selections_stand
-                l.labelled));
-            listed = rw selections l.selections_stand;
-          }
-
+    module _ {facts₀ work replies : List ℕ} (a : Accepting b x facts₀ work replies) where
       pub lists_answering : length t ≡ length work → Answering b x c groups (sheet_of b).stated work replies
       lists_answering same_size =
           record {
@@ -100,7 +92,7 @@ module _ {b : List ℕ} {x : Accepted} {facts₀ work replies : List ℕ} (a : A
       lists_filled by outcome cleared replied =
           let first = ap verdict_by clash_is_first in
           let is = by ∙ first in
-          let n_is = accepted_variables b x a.questions.accepted in
+          let n_is = accepted_variables b x read in
           record {
             outcome = rw (← is, ← table_is, n_is) outcome;
             facts_are = table_is ∙ sym (derived_bytes (sheet_of b).n (sheet_of b).stated);

@@ -32,7 +32,13 @@ fn refused(refusal: Refusal) -> Outcome
 }
 
 // Groups the selections of the lists, and fills the first table with all facts that follow from what stands in them.
-fn close(facts: &mut [u8], n: usize, lists: &Lists, groups: &mut Groups, queue: &mut Queue)
+pub(crate) fn close(
+    facts: &mut [u8],
+    n: usize,
+    lists: &Lists,
+    groups: &mut Groups,
+    queue: &mut Queue,
+)
     requires { Lawful n lists.now.pairs.items lists.now.selections.items (length facts.old) }
     ensures made { Made n lists.now.pairs.items lists.now.selections.items groups.new facts.new }
 {

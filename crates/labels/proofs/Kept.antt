@@ -10,6 +10,8 @@ use mathlib.Core.Logic.{⊎_elim}
 use mathlib.Core.Path.{◌≡◌, refl, sym, ap, subst, ◌∙◌}
 use native.Mathlib.Omega.{arith}
 use Rattle.std.proofs.lemmas.Bool.{false_from_ne_true, cases_eq}
+use Rattle.std.specs.Prelude.{Some}
+use Rattle.fields.specs.declared.numbers.Label.{Label}
 use Rattle.fields.specs.Fields.{label}
 use Rattle.fields.specs.Limits.{most_variables}
 use Rattle.fields.specs.Tests.{same, pick}
@@ -25,6 +27,7 @@ use Rattle.rules.proofs.More.{still, last_stated, stated_of}
 use Rattle.rules.proofs.Clashing.{differ_by, differ_of}
 use Rattle.labels.specs.declared.spread.Spread.{Spread}
 use Rattle.labels.specs.Spreads.{has_any, is_several, is_only, has_other, differ, with_labels, spread_at}
+use Rattle.labels.specs.Roots.{only_label}
 use Rattle.labels.specs.Labels.{TwoLabels, LabelsAt, LabelsStand, spreads_with, NoLabelling, other_stated}
 use Rattle.labels.specs.Labels.{OtherTold, DifferTold}
 
@@ -71,6 +74,20 @@ pub stated_only : {st : List Statement} {j a : ℕ} {s : Spread} → LabelsAt st
 stated_only (LabelsAt.none none) few s = absurd (none _ s)
 stated_only (LabelsAt.one one) few s = is_same _ _ (sym (one.only _ s))
 stated_only (LabelsAt.several two) few s = absurd (true≢false few)
+
+-- and which is, where there is one
+pub only_label_stated : {st : List Statement} {j : ℕ} {s : Spread} {a : Label} → LabelsAt st j s
+    → only_label s ≡ Some a → Stated st (labelling j a.0)
+only_label_stated (LabelsAt.none none) e = cc
+only_label_stated {st} {j} {a = a} (LabelsAt.one {a = b} one) e =
+    let same : b ≡ a = cc in subst (λ c. Stated st (labelling j c.0)) same one.stated
+only_label_stated (LabelsAt.several two) e = cc
+
+pub stated_only_label : {st : List Statement} {j a : ℕ} {s : Spread} → LabelsAt st j s → is_several s ≡ false
+    → Stated st (labelling j a) → only_label s ≡ Some (label a)
+stated_only_label (LabelsAt.none none) few s = absurd (none _ s)
+stated_only_label {a = a} (LabelsAt.one {a = b} one) few s = ap (λ x. Some (label x)) (sym (one.only a s))
+stated_only_label (LabelsAt.several two) few s = absurd (true≢false few)
 
 -- where there are several, two differ
 pub several_two : {st : List Statement} {i : ℕ} {s : Spread} → LabelsAt st i s → is_several s ≡ true → TwoLabels st i

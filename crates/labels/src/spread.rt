@@ -1,5 +1,6 @@
 // How many different labels are stated: where there are fewer than two, nothing can clash.
 ghost use Rattle.std.specs.Prelude.{◌≡◌};
+ghost use Rattle.labels.specs.Roots.{only_label};
 ghost use Rattle.labels.specs.Spreads.{has_any, is_several, is_only, has_other, differ, with_labels, can_clash};
 
 use fields::Label;
@@ -35,6 +36,16 @@ impl Spread {
         ensures { result ≡ is_only self a.0 }
     {
         matches!(self, Spread::One(b) if b == a)
+    }
+
+    // The one label, if there is just one.
+    pub fn only(self) -> Option<Label>
+        ensures { result ≡ only_label self }
+    {
+        match self {
+            Spread::One(a) => Some(a),
+            _ => None,
+        }
     }
 
     // Whether there is a label other than a.

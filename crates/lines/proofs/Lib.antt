@@ -1,6 +1,7 @@
 -- Laws of lines: which stands at which number, how long they are, which fit into an array, what a checked sheet has, and what
 -- their text tells.
 pub mod Cases
+pub mod Labels
 pub mod Rows
 pub mod Runs
 pub mod Numbering

@@ -19,52 +19,33 @@ use Rattle.rules.specs.Tables.{count_facts}
 use Rattle.rules.specs.Derived.{facts_of}
 use Rattle.outcomes.specs.Closed.{outcome_by}
 use Rattle.rules.specs.Clashes.{clash_of}
-use Rattle.rules.specs.Replies.{replies_of, reply_number, stated_label}
+use Rattle.rules.specs.Roots.{root_label}
+use Rattle.rules.specs.Replies.{replies_of, reply_number}
 use Rattle.rules.specs.Verdicts.{verdict_by, verdict_of}
 use Rattle.rules.specs.Cases.{row, consistent, clash, refused, labels_from, counts_of, of_sheet, of_accepted, of_refused, worked}
 use Rattle.outcomes.specs.declared.outcomes.Outcome.{Outcome}
 use Rattle.lines.specs.Lines.{line, label_word, outcome_line, var_line, ask_line, other_lines, lines_of, printed}
 use Rattle.lines.specs.Printouts.{reply_told}
+use Rattle.lines.proofs.Labels.{same_labels}
 use Rattle.lines.proofs.Checked.{replies_back}
 
 -- the labels of the first variables, and of no other
 abbrev pub first : List (Option ℕ) → ℕ → Option ℕ
 first labels i = get_or labels i none
 
--- those of a row are the labels that are stated
-listed : (n i : ℕ) (st : List Statement) (k : ℕ) → k < n → first (labels_from n i st) k ≡ stated_label st (i + k)
+-- those of a row are the labels that are told
+listed : (n i : ℕ) (s : Sheet) (k : ℕ) → k < n → first (labels_from n i s) k ≡ root_label s (i + k)
 unfolding labels_from
-listed zero i st k h = absurd (omega arith)
-listed (suc n) i st zero h = let same : i ≡ i + 0 = omega arith in ap (stated_label st) same
-listed (suc n) i st (suc k) h =
+listed zero i s k h = absurd (omega arith)
+listed (suc n) i s zero h = let same : i ≡ i + 0 = omega arith in ap (root_label s) same
+listed (suc n) i s (suc k) h =
     let same : suc i + k ≡ i + suc k = omega arith in
-    listed n (suc i) st k (omega arith) ∙ ap (stated_label st) same
-
--- the same labels of all variables make the same lines
-same_below : (f g : ℕ → List ℕ) (i n : ℕ) → ((k : ℕ) → k < n → f (i + k) ≡ g (i + k))
-    → map f (range_with_len i n) ≡ map g (range_with_len i n)
-same_below f g i zero same = refl
-same_below f g i (suc n) same =
-    let here : i + 0 ≡ i = omega arith in
-    ap₂ ◌∷◌ (subst (λ x. f x ≡ g x) here (same 0 (omega arith))) (same_below f g (i + 1) n λ k h.
-    let next : i + suc k ≡ i + 1 + k = omega arith in
-    subst (λ x. f x ≡ g x) next (same (suc k) (omega arith)))
-
-same_labels : (n : ℕ) (o : Outcome) (labels labels' : ℕ → Option ℕ) (rs : List Reply)
-    → ((k : ℕ) → k < n → labels k ≡ labels' k) → lines_of n o labels rs ≡ lines_of n o labels' rs
-unfolding other_lines var_line
-same_labels n (Outcome.Clash i j) labels labels' rs same = refl
-same_labels n (Outcome.Refused fault at) labels labels' rs same = refl
-same_labels n (Outcome.Consistent c d) labels labels' rs same =
-    ap (λ x. outcome_line n (Outcome.Consistent c d) ∷ (x ++ map (λ asked. ask_line asked.0 asked.1) (enumerate_from 0 rs)))
-    (same_below (var_line labels) (var_line labels') 0 n λ k h.
-    let from : 0 + k ≡ k = omega arith in
-    rw from (ap (λ a. line (codes "var" ∷ numeral k ∷ label_word a ∷ [])) (same k h)))
+    listed n (suc i) s k (omega arith) ∙ ap (root_label s) same
 
 -- a row of a consistent sheet says its lines
 module _ (b : List ℕ) (s : Sheet) (n x y : ℕ) (labels : List (Option ℕ)) (replies : List ℕ) where
   by_clash : (clash : Found Clash) → of_sheet b s clash ≡ row b n (consistent x y) labels replies
-      → lines_of s.n (outcome_by s.n (facts_of s.stated s.n) (verdict_by clash)) (stated_label s.stated) (replies_of s)
+      → lines_of s.n (outcome_by s.n (facts_of s.stated s.n) (verdict_by clash)) (root_label s) (replies_of s)
       ≡ lines_of n (Outcome.Consistent x y) (first labels) (map reply_told replies)
   unfolding counts_of
   by_clash (Some pair) e =
@@ -74,12 +55,12 @@ module _ (b : List ℕ) (s : Sheet) (n x y : ℕ) (labels : List (Option ℕ)) (
       let outcomes : counts_of s ≡ consistent x y = ap (λ c. c.outcome) e in
       let counts : count_facts s.n (facts_of s.stated s.n) Kind.Ordered ≡ x = cc outcomes in
       let counts' : count_facts s.n (facts_of s.stated s.n) Kind.Compatible ≡ y = cc outcomes in
-      let labelled : labels_from s.n 0 s.stated ≡ labels = ap (λ c. c.labels) e in
+      let labelled : labels_from s.n 0 s ≡ labels = ap (λ c. c.labels) e in
       let replied : map reply_number (replies_of s) ≡ replies = ap (λ c. c.replies) e in
       rw (counts, counts', ← labelled, ← replied, ← variables, replies_back)
-      (same_labels s.n (Outcome.Consistent x y) (stated_label s.stated) (first (labels_from s.n 0 s.stated)) (replies_of s)
+      (same_labels s.n (Outcome.Consistent x y) (root_label s) (first (labels_from s.n 0 s)) (replies_of s)
       λ k h. let from : 0 + k ≡ k = omega arith in
-      sym (listed s.n 0 s.stated k h ∙ ap (stated_label s.stated) from))
+      sym (listed s.n 0 s k h ∙ ap (root_label s) from))
 
 pub of_row : (b : List ℕ) (n x y : ℕ) (labels : List (Option ℕ)) (replies : List ℕ)
     → worked b ≡ row b n (consistent x y) labels replies

@@ -14,7 +14,8 @@ use Rattle.numerals.proofs.Theorems.{numeral_injective}
 use Rattle.fields.specs.Refusals.{number_of}
 use Rattle.sheet.specs.Sheets.{Sheet}
 use Rattle.rules.specs.declared.replies.Reply.{Reply}
-use Rattle.rules.specs.Replies.{replies_of, stated_label}
+use Rattle.rules.specs.Roots.{root_label}
+use Rattle.rules.specs.Replies.{replies_of}
 use Rattle.outcomes.specs.declared.outcomes.Outcome.{Outcome}
 use Rattle.lines.specs.Lines.{line, outcome_line, label_word, reply_word, var_line, ask_line, other_lines, lines_of}
 use Rattle.lines.specs.Alike.{Alike}
@@ -29,7 +30,7 @@ ask_words asked = codes "ask" ∷ numeral asked.0 ∷ reply_word asked.1 ∷ []
 module _ (s : Sheet) where
   -- of that of variable i
   abbrev var_words : ℕ → List (List ℕ)
-  var_words i = codes "var" ∷ numeral i ∷ label_word (stated_label s.stated i) ∷ []
+  var_words i = codes "var" ∷ numeral i ∷ label_word (root_label s i) ∷ []
 
   abbrev of_variables : List (List (List ℕ))
   of_variables = map var_words (range_with_len 0 s.n)
@@ -53,7 +54,7 @@ module _ (s : Sheet) where
   words_of o = outcome_words o ∷ other_words o
 
   -- all lines are made of these,
-  made_of : (o : Outcome) → lines_of s.n o (stated_label s.stated) (replies_of s) ≡ map line (words_of o)
+  made_of : (o : Outcome) → lines_of s.n o (root_label s) (replies_of s) ≡ map line (words_of o)
   unfolding outcome_line var_line ask_line other_lines
   made_of (Outcome.Consistent c d) = simp (map-append, map-map) refl
   made_of (Outcome.Clash i j) = refl
@@ -103,7 +104,7 @@ module _ (s s' : Sheet) where
         variables = λ k. as_many;
         labels = λ k i h.
             let there = variable_words s' i (omega arith) in
-            same_label (stated_label s.stated i) (stated_label s'.stated i)
+            same_label (root_label s i) (root_label s' i)
             (cc (sym (variable_words s i h) ∙ ap (λ x. get_or x i []) (ap (drop 1) e) ∙ there));
         replies = λ k.
             same_replies 0 (replies_of s) (replies_of s')
@@ -135,8 +136,8 @@ module _ (s s' : Sheet) where
   same_words (Outcome.Refused fault at) (Outcome.Clash i j) e = absurd (cc e)
 
   -- and these by the text
-  pub same_text : (o o' : Outcome) → concat (lines_of s.n o (stated_label s.stated) (replies_of s))
-      ≡ concat (lines_of s'.n o' (stated_label s'.stated) (replies_of s')) → Alike s s' o o'
+  pub same_text : (o o' : Outcome) → concat (lines_of s.n o (root_label s) (replies_of s))
+      ≡ concat (lines_of s'.n o' (root_label s') (replies_of s')) → Alike s s' o o'
   same_text o o' e =
       let same = sym (ap concat (made_of s o)) ∙ e ∙ ap concat (made_of s' o') in
       same_words o o' (same_lines (words_of s o) (words_of s' o') (all_fit s o) (all_fit s' o') same)

@@ -1,7 +1,8 @@
 -- Two sheets of which the same is told.
 use Rattle.std.specs.Prelude.{ℕ, ◌<◌, ◌≡◌, List}
 use Rattle.sheet.specs.Sheets.{Sheet, sheet_of}
-use Rattle.rules.specs.Replies.{replies_of, stated_label}
+use Rattle.rules.specs.Roots.{root_label}
+use Rattle.rules.specs.Replies.{replies_of}
 use Rattle.outcomes.specs.declared.outcomes.Outcome.{Outcome}
 use Rattle.outcomes.specs.Outcomes.{kind_of, first_of, second_of}
 use Rattle.lines.specs.Lines.{outcome_told}
@@ -12,7 +13,7 @@ pub record Alike (s s' : Sheet) (o o' : Outcome) : Type 0 where
   pub first : first_of o ≡ first_of o'
   pub second : second_of o ≡ second_of o'
   pub variables : kind_of o ≡ 0 → s.n ≡ s'.n
-  pub labels : kind_of o ≡ 0 → (i : ℕ) → i < s.n → stated_label s.stated i ≡ stated_label s'.stated i
+  pub labels : kind_of o ≡ 0 → (i : ℕ) → i < s.n → root_label s i ≡ root_label s' i
   pub replies : kind_of o ≡ 0 → replies_of s ≡ replies_of s'
 
 -- the same is told of two inputs

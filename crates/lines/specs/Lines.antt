@@ -7,7 +7,8 @@ use Rattle.fields.specs.Fields.{then_value}
 use Rattle.fields.specs.Refusals.{number_of}
 use Rattle.sheet.specs.Sheets.{read_sheet, sheet_of}
 use Rattle.rules.specs.declared.replies.Reply.{Reply}
-use Rattle.rules.specs.Replies.{replies_of, stated_label}
+use Rattle.rules.specs.Roots.{root_label}
+use Rattle.rules.specs.Replies.{replies_of}
 use Rattle.outcomes.specs.declared.outcomes.Outcome.{Outcome}
 use Rattle.promise.specs.Checks.{of_refusal, sheet_outcome}
 
@@ -62,4 +63,4 @@ outcome_told b = then_value (read_sheet b) of_refusal λ a. sheet_outcome (sheet
 unfoldable pub printed : List ℕ → List (List ℕ)
 printed b =
     let s = sheet_of b in
-    lines_of s.n (outcome_told b) (stated_label s.stated) (replies_of s)
+    lines_of s.n (outcome_told b) (root_label s) (replies_of s)

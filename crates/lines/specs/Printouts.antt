@@ -1,9 +1,8 @@
--- The lines of a printout: of whatever sheet, outcome and reply bytes it holds.
+-- The lines of a printout: of whatever outcome, labels and reply bytes it holds.
 use Rattle.std.specs.Prelude.{ℕ, zero, suc, List, map}
 use Rattle.std.proofs.Math.Option.{Option}
-use Rattle.sheet.specs.Sheets.{sheet_of}
 use Rattle.rules.specs.declared.replies.Reply.{Reply}
-use Rattle.rules.specs.Replies.{stated_label}
+use Rattle.labels.specs.Roots.{root_at}
 use Rattle.lines.specs.declared.printout.Printout.{Printout}
 use Rattle.lines.specs.Lines.{lines_of}
 
@@ -14,7 +13,7 @@ reply_told (suc zero) = Reply.Never
 reply_told (suc (suc other)) = Reply.Open
 
 abbrev pub labels_in : Printout → ℕ → Option ℕ
-labels_in p = stated_label (sheet_of p.sheet.now).stated
+labels_in p = root_at p.labels
 
 abbrev pub replies_in : Printout → List Reply
 replies_in p = map reply_told p.replies.now

@@ -1,21 +1,20 @@
 // What is printed of a sheet: outcome, labels and replies, a line for each thing that is told.
 ghost use Rattle.std.specs.Prelude.{◌<◌, length, get_or, [], ◌≡◌};
-ghost use Rattle.sheet.specs.Sheets.{sheet_of};
-ghost use Rattle.rules.specs.Replies.{stated_label};
+ghost use Rattle.labels.specs.Roots.{root_at};
 ghost use Rattle.lines.specs.Lines.{outcome_line, var_line, ask_line};
 ghost use Rattle.lines.specs.Printouts.{reply_told, lines_in};
 
 use crate::line::Line;
+use labels::RootLabels;
 use outcomes::Outcome;
 use rules::Reply;
-use sheet::Variable;
 
-// A sheet of so many variables, its outcome, and a reply byte for each question.
+// Of a sheet of so many variables: its outcome, the labels of the variables, and a reply byte for each question.
 #[derive(Clone, Copy)]
 pub struct Printout<'a> {
-    pub sheet: &'a [u8],
     pub variables: u8,
     pub outcome: Outcome,
+    pub labels: RootLabels,
     pub replies: &'a [u8],
 }
 
@@ -41,13 +40,13 @@ fn outcome_line(variables: u8, outcome: Outcome) -> Line
     }
 }
 
-// The line of variable i, with the label that the sheet states for it, or a dash.
+// The line of variable i, with the label that is told of it, or a dash.
 #[tactic(auto, unfolding(crate::specs::Lines::var_line))]
-fn var_line(sheet: &[u8], i: u8) -> Line
-    ensures { result.bytes.items ≡ var_line (stated_label (sheet_of sheet.now).stated) i }
+fn var_line(labels: &RootLabels, i: u8) -> Line
+    ensures { result.bytes.items ≡ var_line (root_at labels.now) i }
 {
     let line = Line::start(b"var").number(u64::from(i));
-    match statements::stated_label(sheet, Variable(i)) {
+    match labels.of(usize::from(i)) {
         None => line.word(b"-").end(),
         Some(label) => line.number(u64::from(label.0)).end(),
     }
@@ -98,7 +97,7 @@ impl Printout<'_> {
             outcome_line(self.variables, self.outcome)
         } else if k <= variables {
             // by `as`: it is below the number of variables
-            var_line(self.sheet, (k - 1) as u8)
+            var_line(&self.labels, (k - 1) as u8)
         } else {
             let q = k - 1 - variables;
             ask_line(q, reply_told(self.replies[q]))

@@ -15,7 +15,7 @@ use Rattle.sheet.proofs.Theorems.{accepted_read}
 use Rattle.outcomes.specs.Judged.{judged}
 
 module _ (b : List ℕ) (a : Accepted) (e : read_sheet b ≡ Ok a) where
-  table_fits : size_for a.header.variables ≤ largest_table
+  pub table_fits : size_for a.header.variables ≤ largest_table
   unfolding size_for
   table_fits =
       let few = (accepted_read b a e).heads.few in

@@ -1,29 +1,31 @@
 -- What users rest on: the sentences of demands 1, 2 and 3, each a theorem, of any bytes, buffers and number of which
--- `Returned` and `Means` are ensured.
+-- `Returned` and `Means` are ensured; and those on labels, of what `LabelMeans` is ensured.
 use Rattle.std.specs.Prelude.{Result, Err}
-use Prim.Native.Nat.{ℕ}
+use Prim.Native.Nat.{ℕ, zero, suc, ◌+◌, ◌<◌, ◌≤◌}
 use mathlib.Core.List.{List}
 use mathlib.Core.Logic.{◌↔◌, ◌⊎◌, inl, inr}
-use mathlib.Core.Option.{some}
-use mathlib.Core.Path.{◌≡◌}
+use mathlib.Core.Option.{Option, none, some, some-injective}
+use mathlib.Core.Path.{◌≡◌, refl, ap}
 use native.Mathlib.Omega.{arith}
 use lib.ListN.{get_or, take}
 use Rattle.fields.specs.declared.refusals.Refusal.{Refusal}
 use Rattle.sheet.specs.Headers.{size_for}
 use Rattle.items.specs.Questions.{Query}
 use Rattle.sheet.specs.declared.whole.Accepted.{Accepted}
-use Rattle.sheet.specs.Sheets.{sheet_of}
+use Rattle.sheet.specs.Sheets.{Sheet, sheet_of}
 use Rattle.rules.specs.Demand.{Derives}
 use Rattle.rules.specs.Derived.{facts_of}
 use Rattle.rules.specs.Tables.{table_bytes}
 use Rattle.trees.specs.Assignments.{Keeps, Breaks, Meets, Counts}
-use Rattle.trees.specs.Demand.{Met, Unmet, Some, Every}
+use Rattle.trees.specs.Demand.{Met, Unmet, Some, Every, RootIs}
 use Rattle.trees.specs.Trees.{Tree, IsTree, Child, Labelled}
 use Rattle.outcomes.specs.Outcomes.{kind_in, first_in, second_in}
 use Rattle.promise.specs.Checks.{Returned}
 use Rattle.promise.specs.Promise.{IsAccepted, IsRefused, question_in, Means}
 use Rattle.promise.specs.Promise.{FactsTold, RefusalTold, OneReplyEach, F5Applies, Supported}
+use Rattle.promise.specs.Roots.{label_of_number, MustHave, LabelMeans}
 use Rattle.promise.proofs.Shown as Shown
+use Rattle.promise.proofs.Shown.{never_accepted}
 use Rattle.promise.proofs.Clashes.{none_applies}
 
 module _ {b facts work replies facts' work' replies' : List ℕ} {r : ℕ}
@@ -98,6 +100,39 @@ module _ {b facts work replies facts' work' replies' : List ℕ} {r : ℕ}
     pub open_exactly : (get_or replies' k 0 ≡ 2)
         ↔ ((Some (Counts (sheet_of b)) λ v. Keeps v q) × (Some (Counts (sheet_of b)) λ v. Breaks v q))
     open_exactly = (means.replies consistent k q asked).undecided
+
+-- Labels. What is told of a variable's root, of whatever bytes and by whatever call:
+module _ {read : Result Accepted Refusal} {s : Sheet} {i : ℕ} {told : Option ℕ} (means : LabelMeans read s i told) where
+  module _ (accepted : IsAccepted read) (met : Met (Counts s)) (variable : i < s.n) where
+    must : (a : ℕ) → RootIs (Counts s) i a → MustHave read s i a
+    must a every = record { accepted = accepted; variable = variable; met = met; everywhere = every }
+
+    -- on a consistent sheet a label is told exactly when every assignment meeting the sheet has it there,
+    pub label_exactly : (a : ℕ) → (told ≡ some a) ↔ RootIs (Counts s) i a
+    label_exactly a = (λ e. ((means.label a).0 e).everywhere, λ every. (means.label a).1 (must a every))
+
+    -- none exactly when no label is common to them all,
+    pub dash_exactly : (told ≡ none) ↔ ((a : ℕ) → RootIs (Counts s) i a → ⊥)
+    dash_exactly = (λ e a every. means.dash.0 e a (must a every), λ no. means.dash.1 λ a m. no a m.everywhere)
+
+    -- and never two.
+    pub never_two : (a c : ℕ) → RootIs (Counts s) i a → RootIs (Counts s) i c → a ≡ c
+    never_two a c every every' = means.one a c (must a every) (must c every')
+
+  -- None is told of bytes that are refused, of a sheet that clashes, and of a number that is no variable.
+  pub else_no_label : IsRefused read ⊎ (Unmet (Meets s) ⊎ (s.n ≤ i)) → told ≡ none
+  else_no_label (inl refused) = means.dash.1 λ a m. never_accepted (rw refused.1 at m.accepted)
+  else_no_label (inr (inl unmet)) = means.dash.1 λ a m. unmet m.met.0 m.met.1
+  else_no_label (inr (inr beyond)) = means.dash.1 λ a m. absurd (omega (arith, beyond, m.variable))
+
+-- The number that C gets is 0 for no label, else 1 + the label.
+pub number_of_none : (r : ℕ) → (r ≡ 0) ↔ (label_of_number r ≡ none)
+number_of_none zero = (λ e. refl, λ e. refl)
+number_of_none (suc a) = (λ e. absurd (omega (arith, e)), λ e. cc)
+
+pub number_of_label : (r a : ℕ) → (r ≡ 1 + a) ↔ (label_of_number r ≡ some a)
+number_of_label zero a = (λ e. absurd (omega (arith, e)), λ e. cc)
+number_of_label (suc c) a = (λ e. ap some (omega (arith, e)), λ e. let same = some-injective c a e in omega (arith, same))
 
 -- Trees may be endless and may use any whole number as feature or label: there is one that is its own child.
 pub endless : (f a : ℕ) → (t : Tree) × (IsTree t × Child t f t × Labelled t a)

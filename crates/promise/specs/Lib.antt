@@ -1,3 +1,4 @@
--- What a check of any bytes returns and leaves, and what both mean.
+-- What a check of any bytes returns and leaves, what labels are told, and what these mean.
 pub mod Checks
 pub mod Promise
+pub mod Roots

@@ -14,6 +14,8 @@ use Rattle.rules.specs.Tables as Tables
 use Rattle.rules.specs.Derived as Derived
 use Rattle.rules.specs.Clashes as Clashes
 use Rattle.rules.specs.Support as Support
+use Rattle.rules.specs.Verdicts as Verdicts
+use Rattle.rules.specs.Roots as Roots
 use Rattle.rules.specs.Replies as Replies
 use Rattle.rules.specs.Cases.{table, worked, counts_of, labels_from, AllWorked, done, ◌next◌}
 
@@ -32,7 +34,7 @@ unfolding table worked counts_of labels_from ◌and◌ ◌or◌ Tests.less Tests
     Derived.is_stated Derived.passes Derived.turns Derived.descends Derived.round Derived.rounds Derived.derived
     Clashes.labels_differ Clashes.clashes_at Clashes.clash_in_row Clashes.clash_in_rows Clashes.clash_of Clashes.clashes
     Support.under_child Support.over_child Support.under_label Support.supported
-    Replies.reply_by Replies.replies_of Replies.stated_label
+    Verdicts.verdict_of Roots.label_below Roots.root_label Replies.reply_by Replies.replies_of
 table_holds =
     refl next  -- C1
     refl next  -- C2
@@ -54,4 +56,6 @@ table_holds =
     refl next  -- a feature is not passed downward
     refl next  -- a label is not passed along ~
     refl next  -- the least of two columns
+    refl next  -- a label up by F2
+    refl next  -- one label of two below
     done

@@ -3,13 +3,12 @@ use Prim.Native.Nat.{ℕ}
 use mathlib.Core.Bool.{Bool, true, false}
 use mathlib.Core.List.Memᴰ
 use mathlib.Core.List.{List, [], ◌∷◌}
-use mathlib.Core.Option.{Option, none, some, none-ne-some, some-injective}
+use mathlib.Core.Option.{Option, some, none-ne-some, some-injective}
 use mathlib.Core.Path.{◌≡◌, refl, sym, ap, subst, ◌∙◌}
-use Rattle.fields.specs.Tests.{same, pick}
-use Rattle.fields.proofs.Choice.{is_same, same_true, chosen, passed}
+use Rattle.fields.specs.Tests.{pick}
+use Rattle.fields.proofs.Choice.{chosen, passed}
 use Rattle.items.specs.declared.items.Statement.{Statement}
 use Rattle.rules.specs.Stated.{labelling, Stated, first_label}
-use Rattle.rules.specs.Replies.{stated_label}
 use Rattle.rules.proofs.Logic.{decided}
 
 by_choice : {C : Type 0} (b : Bool) (a c : ℕ) (x : Option ℕ) → pick b (some c) x ≡ some a
@@ -43,16 +42,3 @@ module _ (test : ℕ → Bool) where
   first_found (Statement.Labelling i b ∷ st) (Memᴰ.tail s) p next =
       decided (test i.0) (λ q. next b.0 (sym (chosen (test i.0) _ _ q refl)))
       (λ q. first_found st s p (λ c d. next c (sym (passed (test i.0) _ _ q refl) ∙ d)))
-
--- the label told of a variable is stated for it, and none is told only where none is stated
-pub told_is_stated : (st : List Statement) (i a : ℕ) → stated_label st i ≡ some a → Stated st (labelling i a)
-unfolding stated_label
-told_is_stated st i a e =
-    first_from (λ x. same i x) st e λ k s p.
-    subst (λ x. Stated st (labelling x a)) (sym (same_true i k p)) s
-
-pub stated_is_told : (st : List Statement) (i a : ℕ) → Stated st (labelling i a) → stated_label st i ≡ none → ⊥
-unfolding stated_label
-stated_is_told st i a s e =
-    first_found (λ x. same i x) st s (is_same i i refl) λ b d.
-    none-ne-some b (sym e ∙ d)

@@ -15,5 +15,6 @@ pub mod Rules
 pub mod Rounds
 pub mod Derived
 pub mod Clashing
+pub mod Roots
 pub mod Demand
 pub mod Bytes

@@ -5,14 +5,14 @@ use Rattle.std.proofs.Math.Option.{Option, none, some}
 use Rattle.fields.specs.declared.refusals.Refusal.{Refusal}
 use Rattle.fields.specs.Fields.{then_value}
 use Rattle.fields.specs.Refusals.{number_of}
-use Rattle.items.specs.declared.items.Statement.{Statement}
 use Rattle.sheet.specs.Sheets.{Sheet, read_sheet, sheet_of}
 use Rattle.rules.specs.declared.clashes.Clash.{Clash}
 use Rattle.rules.specs.declared.kinds.Kind.{Kind}
 use Rattle.rules.specs.Tables.{count_facts}
 use Rattle.rules.specs.Derived.{facts_of}
 use Rattle.rules.specs.Clashes.{clash_of}
-use Rattle.rules.specs.Replies.{replies_of, reply_number, stated_label}
+use Rattle.rules.specs.Replies.{replies_of, reply_number}
+use Rattle.rules.specs.Roots.{root_label}
 
 -- with two numbers: how many facts i ≤ j and i ~ j, the pair that clashes, or number and offset of the refusal
 pub data Outcome : Type 0 where
@@ -30,10 +30,10 @@ abbrev pub row : List ℕ → ℕ → Outcome → List (Option ℕ) → List ℕ
 row bytes n outcome labels replies =
     record { bytes = bytes; variables = n; outcome = outcome; labels = labels; replies = replies }
 
--- the labels stated for as many variables, from i on
-unfoldable pub labels_from : ℕ → ℕ → List Statement → List (Option ℕ)
-labels_from zero i st = []
-labels_from (suc left) i st = stated_label st i ∷ labels_from left (suc i) st
+-- the labels told of as many variables, from i on
+unfoldable pub labels_from : ℕ → ℕ → Sheet → List (Option ℕ)
+labels_from zero i s = []
+labels_from (suc left) i s = root_label s i ∷ labels_from left (suc i) s
 
 -- the numbers of both kinds of fact
 unfoldable pub counts_of : Sheet → Outcome
@@ -44,9 +44,9 @@ counts_of s =
 -- where no labels clash there are counts and replies
 abbrev pub of_sheet : List ℕ → Sheet → Prelude.Option Clash → Case
 of_sheet bytes s None =
-    row bytes s.n (counts_of s) (labels_from s.n 0 s.stated) (map reply_number (replies_of s))
+    row bytes s.n (counts_of s) (labels_from s.n 0 s) (map reply_number (replies_of s))
 of_sheet bytes s (Some pair) =
-    row bytes s.n (clash pair.first.0 pair.second.0) (labels_from s.n 0 s.stated) []
+    row bytes s.n (clash pair.first.0 pair.second.0) (labels_from s.n 0 s) []
 
 abbrev pub of_accepted : List ℕ → Sheet → Case
 of_accepted bytes s = of_sheet bytes s (clash_of s.stated s.n)
@@ -58,8 +58,8 @@ of_refused bytes r = row bytes 0 (refused (number_of r.fault) r.at) [] []
 unfoldable pub worked : List ℕ → Case
 worked bytes = then_value (read_sheet bytes) (of_refused bytes) (λ a. of_accepted bytes (sheet_of bytes))
 
--- C1 to C12 of the scope, and behind them rows for what those leave unseen; a label is 'none' where the variable has
--- none, a reply 0 for always, 1 for never, 2 for open
+-- C1 to C12 of the scope, and behind them rows for what those leave unseen; a label is 'none' where none is told, a reply
+-- 0 for always, 1 for never, 2 for open
 unfoldable pub table : List Case
 table =
     -- C1: one variable
@@ -73,7 +73,7 @@ table =
     -- C3: 5(0), 6(0)
     ∷ row (3 ∷ 1 ∷ 0 ∷ 2
     ∷ 8 ∷ 0 ∷ 0 ∷ 5 ∷ 8 ∷ 0 ∷ 0 ∷ 6 ∷ [])
-    1 (clash 0 0) (some 5 ∷ []) []
+    1 (clash 0 0) (none ∷ []) []
     -- C4: 5(0), 6(1), 0 ~ 2, 2 ~ 1
     ∷ row (3 ∷ 3 ∷ 0 ∷ 4
     ∷ 8 ∷ 0 ∷ 0 ∷ 5 ∷ 8 ∷ 1 ∷ 0 ∷ 6 ∷ 2 ∷ 0 ∷ 2 ∷ 2 ∷ 2 ∷ 1 ∷ [])
@@ -81,7 +81,7 @@ table =
     -- C5: 0 ≤ 2, 1 ≤ 2, 5(0), 6(1)
     ∷ row (3 ∷ 3 ∷ 0 ∷ 4
     ∷ 1 ∷ 0 ∷ 2 ∷ 1 ∷ 1 ∷ 2 ∷ 8 ∷ 0 ∷ 0 ∷ 5 ∷ 8 ∷ 1 ∷ 0 ∷ 6 ∷ [])
-    3 (clash 0 1) (some 5 ∷ some 6 ∷ none ∷ []) []
+    3 (clash 0 1) (none ∷ none ∷ none ∷ []) []
     -- C6: 0[1]0, 0 ≤ 1, 1[1]1
     ∷ row (3 ∷ 2 ∷ 0 ∷ 3
     ∷ 4 ∷ 0 ∷ 0 ∷ 1 ∷ 0 ∷ 1 ∷ 0 ∷ 1 ∷ 4 ∷ 1 ∷ 0 ∷ 1 ∷ 1 ∷ [])
@@ -89,11 +89,11 @@ table =
     -- C7: 0[1]1, 0[1]2, 5(1), 6(2)
     ∷ row (3 ∷ 3 ∷ 0 ∷ 4
     ∷ 4 ∷ 0 ∷ 0 ∷ 1 ∷ 1 ∷ 4 ∷ 0 ∷ 0 ∷ 1 ∷ 2 ∷ 8 ∷ 1 ∷ 0 ∷ 5 ∷ 8 ∷ 2 ∷ 0 ∷ 6 ∷ [])
-    3 (clash 1 2) (none ∷ some 5 ∷ some 6 ∷ []) []
+    3 (clash 1 2) (none ∷ none ∷ none ∷ []) []
     -- C8: 5(0), 0 ≤ 1; asked 5(1), 6(1)
     ∷ row (7 ∷ 2 ∷ 0 ∷ 2 ∷ 0 ∷ 2
     ∷ 8 ∷ 0 ∷ 0 ∷ 5 ∷ 1 ∷ 0 ∷ 1 ∷ 8 ∷ 1 ∷ 0 ∷ 5 ∷ 8 ∷ 1 ∷ 0 ∷ 6 ∷ [])
-    2 (consistent 3 4) (some 5 ∷ none ∷ []) (0 ∷ 1 ∷ [])
+    2 (consistent 3 4) (some 5 ∷ some 5 ∷ []) (0 ∷ 1 ∷ [])
     -- C9: 0[1]1, 0 ≤ 2, 2 ≤ 0; asked 2[1]1
     ∷ row (7 ∷ 3 ∷ 0 ∷ 3 ∷ 0 ∷ 1
     ∷ 4 ∷ 0 ∷ 0 ∷ 1 ∷ 1 ∷ 1 ∷ 0 ∷ 2 ∷ 1 ∷ 2 ∷ 0 ∷ 4 ∷ 2 ∷ 0 ∷ 1 ∷ 1 ∷ [])
@@ -126,7 +126,7 @@ table =
     ∷ row (3 ∷ 3 ∷ 0 ∷ 5
     ∷ 4 ∷ 0 ∷ 0 ∷ 1 ∷ 0 ∷ 4 ∷ 1 ∷ 0 ∷ 1 ∷ 2 ∷ 2 ∷ 0 ∷ 1 ∷ 8 ∷ 0 ∷ 0 ∷ 5
     ∷ 8 ∷ 2 ∷ 0 ∷ 6 ∷ [])
-    3 (clash 0 2) (some 5 ∷ none ∷ some 6 ∷ []) []
+    3 (clash 0 2) (none ∷ none ∷ none ∷ []) []
     -- two features: 0[1]1, 0[2]2, 5(1), 6(2)
     ∷ row (3 ∷ 3 ∷ 0 ∷ 4
     ∷ 4 ∷ 0 ∷ 0 ∷ 1 ∷ 1 ∷ 4 ∷ 0 ∷ 0 ∷ 2 ∷ 2 ∷ 8 ∷ 1 ∷ 0 ∷ 5 ∷ 8 ∷ 2 ∷ 0 ∷ 6 ∷ [])
@@ -142,7 +142,15 @@ table =
     -- the least of two columns is told: 5(0), 6(1), 6(2), 0 ~ 2, 0 ~ 1
     ∷ row (3 ∷ 3 ∷ 0 ∷ 5
     ∷ 8 ∷ 0 ∷ 0 ∷ 5 ∷ 8 ∷ 1 ∷ 0 ∷ 6 ∷ 8 ∷ 2 ∷ 0 ∷ 6 ∷ 2 ∷ 0 ∷ 2 ∷ 2 ∷ 0 ∷ 1 ∷ [])
-    3 (clash 0 1) (some 5 ∷ some 6 ∷ some 6 ∷ []) []
+    3 (clash 0 1) (none ∷ none ∷ none ∷ []) []
+    -- a label comes up by F2, and none comes down: 0[1]1, 2[1]3, 0 ≤ 2, 5(1), 6(2)
+    ∷ row (3 ∷ 4 ∷ 0 ∷ 5
+    ∷ 4 ∷ 0 ∷ 0 ∷ 1 ∷ 1 ∷ 4 ∷ 2 ∷ 0 ∷ 1 ∷ 3 ∷ 1 ∷ 0 ∷ 2 ∷ 8 ∷ 1 ∷ 0 ∷ 5 ∷ 8 ∷ 2 ∷ 0 ∷ 6 ∷ [])
+    4 (consistent 6 8) (none ∷ some 5 ∷ some 6 ∷ some 5 ∷ []) []
+    -- one label of two below: 5(0), 5(1), 0 ≤ 2, 1 ≤ 2
+    ∷ row (3 ∷ 3 ∷ 0 ∷ 4
+    ∷ 8 ∷ 0 ∷ 0 ∷ 5 ∷ 8 ∷ 1 ∷ 0 ∷ 5 ∷ 1 ∷ 0 ∷ 2 ∷ 1 ∷ 1 ∷ 2 ∷ [])
+    3 (consistent 5 9) (some 5 ∷ some 5 ∷ some 5 ∷ []) []
     ∷ []
 
 -- the definitions give each row from its bytes

@@ -1,13 +1,11 @@
--- Replies to questions, and the label stated for a variable.
+-- Replies to questions.
 use Rattle.std.specs.Prelude.{◌≡◌, ℕ, ◌<◌, Bool, List, [], ◌∷◌, ◌++◌, map, Result, MatchResult}
-use Rattle.std.proofs.Math.Option.{Option}
-use Rattle.fields.specs.Tests.{same, pick}
+use Rattle.fields.specs.Tests.{pick}
 use Rattle.items.specs.declared.items.Statement.{Statement}
 use Rattle.items.specs.Questions.{Query, holds}
 use Rattle.sheet.specs.Sheets.{Sheet}
 use Rattle.rules.specs.declared.replies.Reply.{Reply}
 use Rattle.rules.specs.declared.replies.NoReply.{NoReply}
-use Rattle.rules.specs.Stated.{first_label}
 use Rattle.rules.specs.Derived.{facts_of}
 use Rattle.rules.specs.Clashes.{clashes}
 use Rattle.rules.specs.Support.{supported}
@@ -48,7 +46,3 @@ reply_number Reply.Open = 2
 -- the reply that a byte stands for, or that it stands for none
 abbrev pub IsReplyByte : ℕ → Result Reply NoReply → Type 0
 IsReplyByte byte r = MatchResult r (λ reply. reply_number reply ≡ byte) (λ none. (none.0 ≡ byte) × (2 < byte))
-
--- the label stated for i, the first where there are more
-unfoldable pub stated_label : List Statement → ℕ → Option ℕ
-stated_label st i = first_label st (λ x. same i x)

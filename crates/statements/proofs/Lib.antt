@@ -1,4 +1,3 @@
--- How statements come to stand in the lists, and which label is stated first.
+-- How statements come to stand in the lists.
 pub mod Putting
 pub mod Records
-pub mod Labelled

@@ -1,3 +1,2 @@
--- The lists in which the statements of a sheet stand, and the label stated for a variable.
+-- The lists in which the statements of a sheet stand.
 pub mod Lists
-pub mod Stated

@@ -7,7 +7,7 @@ ghost use Rattle.lines.specs.Told.{Told};
 ghost use Rattle.treecheck.specs.Writing.{AppendsOrBegins};
 
 use crate::writing::write_bytes;
-use engine::{LARGEST_TABLE, MOST_REPLIES, Outcome};
+use engine::{LARGEST_TABLE, Labelled, MOST_REPLIES};
 use lines::Printout;
 use std::io::{self, Write};
 
@@ -15,22 +15,22 @@ use std::io::{self, Write};
 const BLOCK_SIZE: usize = 16384;
 
 // The printout of a checked sheet.
-fn printout<'a>(sheet: &'a [u8], outcome: Outcome, replies: &'a [u8]) -> Printout<'a>
-    requires { Told sheet.now outcome replies.now }
+fn printout<'a>(sheet: &[u8], told: Labelled, replies: &'a [u8]) -> Printout<'a>
+    requires { Told sheet.now told.outcome told.labels replies.now }
     ensures { lines_in result ≡ printed sheet.now }
 {
     let Ok(header) = engine::read_header(sheet) else {
         return Printout {
-            sheet,
             variables: 0,
-            outcome,
+            outcome: told.outcome,
+            labels: told.labels,
             replies: &[],
         };
     };
     Printout {
-        sheet,
         variables: header.variable_count(),
-        outcome,
+        outcome: told.outcome,
+        labels: told.labels,
         replies: &replies[..header.reply_count()],
     }
 }
@@ -56,6 +56,6 @@ pub fn print<W: Write>(sheet: &[u8], out: &mut W) -> io::Result<()>
     let mut facts = [0; LARGEST_TABLE];
     let mut work = [0; LARGEST_TABLE];
     let mut replies = [0; MOST_REPLIES];
-    let outcome = engine::check(sheet, &mut facts, &mut work, &mut replies);
-    print_lines(&printout(sheet, outcome, &replies), out)
+    let told = engine::check_labelled(sheet, &mut facts, &mut work, &mut replies);
+    print_lines(&printout(sheet, told, &replies), out)
 }

@@ -9,8 +9,8 @@ use Rattle.items.specs.declared.items.Statement.{Statement}
 use Rattle.items.specs.Questions.{holds, Asks}
 use Rattle.items.specs.Statements.{All, Names}
 use Rattle.sheet.specs.declared.whole.Accepted.{Accepted}
-use Rattle.sheet.specs.Sheets.{Sheet, read_sheet, sheet_at}
-use Rattle.sheet.proofs.Theorems.{accepted_names}
+use Rattle.sheet.specs.Sheets.{Sheet, read_sheet, sheet_of, sheet_at}
+use Rattle.sheet.proofs.Theorems.{accepted_sheet, accepted_names}
 use Rattle.rules.specs.declared.replies.Reply.{Reply}
 use Rattle.rules.specs.Demand.{Demand2, Smallest}
 use Rattle.rules.specs.Replies.{fails, fails_with, reply_to}
@@ -47,3 +47,14 @@ module _ (b : List ℕ) (a : Accepted) (accepted : read_sheet b ≡ Ok a) where
       → (reply_to sheet (holds x) ≡ Reply.Never) ↔ (fails_with sheet x ≡ true)
   never_where_it_fails e x named =
       never_by_trial sheet (accepted_names b a accepted).stated e x named
+
+  -- the same of the sheet that any bytes give
+  pub sheet_2 : Demand2 (sheet_of b)
+  sheet_2 = rw (accepted_sheet b a accepted) demand_2
+
+  pub sheet_3 : Demand3 (sheet_of b)
+  sheet_3 = rw (accepted_sheet b a accepted) demand_3
+
+  pub sheet_asked : fails (sheet_of b) ≡ false
+      → All (λ q. Answers (Counts (sheet_of b)) q (reply_to (sheet_of b) q)) (sheet_of b).asked
+  sheet_asked = rw (accepted_sheet b a accepted) demand_3_asked

@@ -1,19 +1,26 @@
--- Each answer exactly when it is true of trees: the clash, consistent, and the reply to a question.
+-- Each answer exactly when it is true of trees: the clash, consistent, the label told of a variable, and the reply to a
+-- question.
+use Prim.Native.Nat.{ℕ, ◌<◌}
 use mathlib.Core.Bool.{true, false}
 use mathlib.Core.List.{[], ◌∷◌, ◌++◌}
 use mathlib.Core.Logic.{◌↔◌}
-use mathlib.Core.Path.{◌≡◌}
+use mathlib.Core.Option.{some}
+use mathlib.Core.Path.{◌≡◌, sym, ◌∙◌}
 use Rattle.items.specs.declared.items.Statement.{Statement}
 use Rattle.items.specs.Questions.{Query, holds, Asks}
 use Rattle.items.specs.Statements.{Names, AllName}
 use Rattle.sheet.specs.Sheets.{Sheet}
 use Rattle.rules.specs.declared.replies.Reply.{Reply}
+use Rattle.rules.specs.Stated.{labelling}
 use Rattle.rules.specs.Clashes.{clashes}
+use Rattle.rules.specs.Roots.{root_label}
+use Rattle.rules.specs.Support.{supported}
 use Rattle.rules.specs.Replies.{fails, with_statement, supports, fails_with, reply_by, reply_to}
 use Rattle.rules.proofs.Logic.{decided}
 use Rattle.rules.proofs.Lists.{all_with, all_without}
+use Rattle.rules.proofs.Roots.{told_exactly, root_told}
 use Rattle.trees.specs.Assignments.{Satisfies, Meets, Counts}
-use Rattle.trees.specs.Demand.{Met, Unmet, Answers, Tested, Demand3}
+use Rattle.trees.specs.Demand.{Met, Unmet, RootIs, Answers, Tested, Demand3}
 use Rattle.trees.proofs.Answering.{Shows, tested_by, answers_by}
 use Rattle.trees.proofs.Independence.{least_of, least_of_meets, one_against_all}
 use Rattle.trees.proofs.Sound.{no_clash, true_supported}
@@ -48,6 +55,20 @@ module _ (s : Sheet) (fit : AllName s.n s.stated) where
   unfolding reply_by
   answers e (holds x) named = answers_by (shows e x named) (met e)
 
+  -- support and the trial are exact, each by itself
+  pub exactly_tested : fails s ≡ false → (x : Statement) → Names s.n x → Tested (Counts s) x (supports s x) (fails_with s x)
+  exactly_tested e x named = tested_by (shows e x named)
+
+  -- the label told of a variable is the one whose statement is supported
+  labels : fails s ≡ false → (i a : ℕ) → i < s.n → (root_label s i ≡ some a) ↔ RootIs (Counts s) i a
+  unfolding supported
+  labels e i a h =
+      let told = told_exactly s.n s.stated fit e i a in
+      let tested = (exactly_tested e (labelling i a) h).always in (
+        λ is. tested.0 (told.0 (sym (root_told s i e) ∙ is)),
+        λ every. root_told s i e ∙ told.1 (tested.1 every),
+      )
+
   -- demand 3
   pub exactly : Demand3 s
   exactly =
@@ -57,12 +78,9 @@ module _ (s : Sheet) (fit : AllName s.n s.stated) where
           λ none. decided (clashes s.stated s.n) (λ e. e) (λ e. let found = met e in absurd (none found.0 found.1)),
         );
         consistent = (met, λ found. decided (fails s) (λ e. absurd (unmet e found.0 found.1)) (λ e. e));
+        labels = labels;
         answers = answers;
       }
-
-  -- support and the trial are exact, each by itself
-  pub exactly_tested : fails s ≡ false → (x : Statement) → Names s.n x → Tested (Counts s) x (supports s x) (fails_with s x)
-  exactly_tested e x named = tested_by (shows e x named)
 
   -- so never is answered exactly where the sheet with the question fails
   pub never_by_trial : fails s ≡ false → (x : Statement) → Names s.n x

@@ -11,16 +11,16 @@ gather-lists-requires c = record { asked = c.args.accepted.asked; accepted = c.r
 pub answer-requires : goal.answer-requires
 answer-requires c =
     let known = c.new-closed.ensures in
-    lists_answering c.requires c.gather-lists.ensures (rw c.from-n.ensures at c.close.ensures.made)
+    lists_answering _ c.requires.questions.accepted c.gather-lists.ensures (rw c.from-n.ensures at c.close.ensures.made)
     c.new-closed.result (ap (λ (t : Table). t.n) known.table ∙ c.from-n.ensures)
     (ap (λ (t : Table). t.cells.now) known.table) (known.selections ∙ c.as_slice.ensures.value)
-    (ap (λ (x : Labels). x.spreads) known.labels) (omega arith)
+    (ap (λ (x : Labels). x.spreads) known.labels) c.requires (omega arith)
 
 pub returns : goal.returns
 returns c =
     let known = c.new-closed.ensures in
-    lists_filled c.requires c.gather-lists.ensures (rw c.from-n.ensures at c.close.ensures.made)
+    lists_filled _ c.requires.questions.accepted c.gather-lists.ensures (rw c.from-n.ensures at c.close.ensures.made)
     c.new-closed.result (ap (λ (t : Table). t.n) known.table ∙ c.from-n.ensures)
     (ap (λ (t : Table). t.cells.now) known.table) (known.selections ∙ c.as_slice.ensures.value)
-    (ap (λ (x : Labels). x.spreads) known.labels) c.from.ensures (rw c.from-n.ensures at c.outcome_of.ensures)
+    (ap (λ (x : Labels). x.spreads) known.labels) c.requires c.from.ensures (rw c.from-n.ensures at c.outcome_of.ensures)
     c.answer.ensures.cleared c.answer.ensures.replied

@@ -4,4 +4,6 @@ use Rattle.lines.proofs.Checked.{told_of_check}
 use Rattle.treecheck.proofs.printing.print.Goals as goal
 
 pub printout-requires : goal.printout-requires
-printout-requires g c = told_of_check _ c.check-outcome.ensures.checked (omega arith) (omega arith) (omega arith) (omega arith)
+printout-requires g c =
+    let told = c.check_labelled-told.ensures in
+    told_of_check _ told.checked told.labels (omega arith) (omega arith) (omega arith) (omega arith)

@@ -7,7 +7,7 @@ use Rattle.treecheck.proofs.printing.printout.Goals as goal
 
 pub returns-in_default : goal.returns-in_default
 unfolding lines_in
-returns-in_default c = no_header _ c.requires _ _ _ _ (sym c.in_default.ensures)
+returns-in_default c = no_header _ c.requires _ _ _ (sym c.in_default.ensures)
 
 pub returns : goal.returns
 unfolding lines_in

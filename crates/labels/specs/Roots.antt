@@ -1,0 +1,21 @@
+-- The labels told of variables, as they are kept: one each, or none.
+use Rattle.std.specs.Prelude.{ℕ, get_or, Option, None, Some}
+use Rattle.std.proofs.Math.Option.{Option as Maybe, none, some}
+use Rattle.fields.specs.declared.numbers.Label.{Label}
+use Rattle.labels.specs.declared.roots.RootLabels.{RootLabels}
+use Rattle.labels.specs.declared.spread.Spread.{Spread}
+
+-- its number, as the rules tell it
+abbrev pub label_in : Option Label → Maybe ℕ
+label_in None = none
+label_in (Some a) = some a.0
+
+-- that of i
+abbrev pub root_at : RootLabels → ℕ → Maybe ℕ
+root_at labels i = label_in (get_or labels.at i None)
+
+-- the one label that is stated
+abbrev pub only_label : Spread → Option Label
+only_label Spread.Nothing = None
+only_label (Spread.One a) = Some a
+only_label Spread.Several = None
