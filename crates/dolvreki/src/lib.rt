@@ -2,8 +2,10 @@
 #![tactic(auto)]
 
 ghost use Rattle.std.specs.Prelude.{◌↔◌, IsTrue};
+ghost use Rattle.sheet.specs.Sheets.{read_sheet, sheet_of};
 ghost use Rattle.promise.specs.Checks.{Returned};
 ghost use Rattle.promise.specs.Promise.{Means};
+ghost use Rattle.promise.specs.Roots.{LabelReturned};
 ghost use Rattle.client.specs.Dropping.{MayDrop};
 
 // Checks a sheet with two tables and a reply buffer: kind (0 consistent, 1 clash, 2 refused) + 256 × first +
@@ -27,4 +29,13 @@ pub extern "C" fn may_drop(sheet: &[u8], question: u32) -> bool
     ensures { IsTrue result ↔ MayDrop sheet.now question }
 {
     client::may_drop(sheet, question)
+}
+
+// The label that the root of a variable has in every assignment meeting the sheet: 0 for none, else 1 + the label; 0 also
+// for a number that is no variable, and where the sheet is refused or clashes. A whole derivation, on a table of its own.
+#[unsafe(no_mangle)]
+pub extern "C" fn root_label(sheet: &[u8], variable: u32) -> u64
+    ensures { LabelReturned (read_sheet sheet.now) (sheet_of sheet.now) variable result }
+{
+    engine::root_label(sheet, variable)
 }

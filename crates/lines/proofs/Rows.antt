@@ -1,20 +1,16 @@
 -- What is printed of a worked sheet of the rules, by its row.
-use Rattle.std.specs.Prelude.{Result, Ok, Err, Option as Found, Some, None, get_or, codes}
-use Rattle.std.specs.List.{range_with_len, enumerate_from}
+use Rattle.std.specs.Prelude.{Result, Ok, Err, Option as Found, Some, None, get_or}
 use Prim.Native.Nat.{ℕ, zero, suc, ◌+◌, ◌<◌}
-use mathlib.Core.List.{List, [], ◌∷◌, ◌++◌, map}
+use mathlib.Core.List.{List, map}
 use mathlib.Core.Option.{Option, none}
-use mathlib.Core.Path.{◌≡◌, refl, sym, ap, ap₂, subst, ◌∙◌}
+use mathlib.Core.Path.{◌≡◌, refl, sym, ap, ◌∙◌}
 use native.Mathlib.Omega.{arith}
 use Rattle.fields.specs.declared.refusals.Refusal.{Refusal}
 use Rattle.fields.specs.Refusals.{number_of}
-use Rattle.items.specs.declared.items.Statement.{Statement}
 use Rattle.sheet.specs.declared.whole.Accepted.{Accepted}
 use Rattle.sheet.specs.Sheets.{Sheet, read_sheet, sheet_of}
-use Rattle.numerals.specs.Numerals.{numeral}
 use Rattle.rules.specs.declared.clashes.Clash.{Clash}
 use Rattle.rules.specs.declared.kinds.Kind.{Kind}
-use Rattle.rules.specs.declared.replies.Reply.{Reply}
 use Rattle.rules.specs.Tables.{count_facts}
 use Rattle.rules.specs.Derived.{facts_of}
 use Rattle.outcomes.specs.Closed.{outcome_by}
@@ -24,7 +20,7 @@ use Rattle.rules.specs.Replies.{replies_of, reply_number}
 use Rattle.rules.specs.Verdicts.{verdict_by, verdict_of}
 use Rattle.rules.specs.Cases.{row, consistent, clash, refused, labels_from, counts_of, of_sheet, of_accepted, of_refused, worked}
 use Rattle.outcomes.specs.declared.outcomes.Outcome.{Outcome}
-use Rattle.lines.specs.Lines.{line, label_word, outcome_line, var_line, ask_line, other_lines, lines_of, printed}
+use Rattle.lines.specs.Lines.{lines_of, printed}
 use Rattle.lines.specs.Printouts.{reply_told}
 use Rattle.lines.proofs.Labels.{same_labels}
 use Rattle.lines.proofs.Checked.{replies_back}

@@ -74,20 +74,20 @@ numbered (some a) = let e : 1 + a ≡ suc a = omega arith in ap label_of_number 
 
 -- bytes b, read with or without more that may refuse them
 module _ (b : List ℕ) {read : Result Accepted Refusal} (reads : (a : Accepted) → read ≡ Ok a → read_sheet b ≡ Ok a)
-    where
-  told_means : (i : ℕ) → LabelMeans read (sheet_of b) i (label_told read (sheet_of b) i)
-  unfolding label_told
-  told_means i = go read refl
-    where
-      go : (r : Result Accepted Refusal) → read ≡ r → LabelMeans read (sheet_of b) i (label_told read (sheet_of b) i)
-      go (Err r) e = rw e (refused_means r (sheet_of b) i)
-      go (Ok a) e = rw e (accepted_means (a, refl) (sheet_3 b a (reads a e)) i)
+  where
+    told_means : (i : ℕ) → LabelMeans read (sheet_of b) i (label_told read (sheet_of b) i)
+    unfolding label_told
+    told_means i = go read refl
+      where
+        go : (r : Result Accepted Refusal) → read ≡ r → LabelMeans read (sheet_of b) i (label_told read (sheet_of b) i)
+        go (Err r) e = rw e (refused_means r (sheet_of b) i)
+        go (Ok a) e = rw e (accepted_means (a, refl) (sheet_3 b a (reads a e)) i)
 
-  pub labels_told : {labels : RootLabels} → ((i : ℕ) → root_at labels i ≡ label_told read (sheet_of b) i)
-      → LabelsTold read (sheet_of b) labels
-  labels_told are = record { are = are; mean = λ i. rw (are i) (told_means i) }
+    pub labels_told : {labels : RootLabels} → ((i : ℕ) → root_at labels i ≡ label_told read (sheet_of b) i)
+        → LabelsTold read (sheet_of b) labels
+    labels_told are = record { are = are; mean = λ i. rw (are i) (told_means i) }
 
-  pub label_returned : {i r : ℕ} → r ≡ label_number (label_told read (sheet_of b) i)
-      → LabelReturned read (sheet_of b) i r
-  label_returned {i} e =
-      record { number = e; means = rw (e, numbered (label_told read (sheet_of b) i)) (told_means i) }
+    pub label_returned : {i r : ℕ} → r ≡ label_number (label_told read (sheet_of b) i)
+        → LabelReturned read (sheet_of b) i r
+    label_returned {i} e =
+        record { number = e; means = rw (e, numbered (label_told read (sheet_of b) i)) (told_means i) }

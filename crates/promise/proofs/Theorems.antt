@@ -4,6 +4,7 @@ use Rattle.std.specs.Prelude.{Result, Err}
 use Prim.Native.Nat.{ℕ, zero, suc, ◌+◌, ◌<◌, ◌≤◌}
 use mathlib.Core.List.{List}
 use mathlib.Core.Logic.{◌↔◌, ◌⊎◌, inl, inr}
+use mathlib.Core.Logic.Iff.{trans}
 use mathlib.Core.Option.{Option, none, some, some-injective}
 use mathlib.Core.Path.{◌≡◌, refl, ap}
 use native.Mathlib.Omega.{arith}
@@ -19,11 +20,13 @@ use Rattle.rules.specs.Tables.{table_bytes}
 use Rattle.trees.specs.Assignments.{Keeps, Breaks, Meets, Counts}
 use Rattle.trees.specs.Demand.{Met, Unmet, Some, Every, RootIs}
 use Rattle.trees.specs.Trees.{Tree, IsTree, Child, Labelled}
+use Rattle.labels.specs.declared.roots.RootLabels.{RootLabels}
+use Rattle.labels.specs.Roots.{root_at}
 use Rattle.outcomes.specs.Outcomes.{kind_in, first_in, second_in}
 use Rattle.promise.specs.Checks.{Returned}
 use Rattle.promise.specs.Promise.{IsAccepted, IsRefused, question_in, Means}
 use Rattle.promise.specs.Promise.{FactsTold, RefusalTold, OneReplyEach, F5Applies, Supported}
-use Rattle.promise.specs.Roots.{label_of_number, MustHave, LabelMeans}
+use Rattle.promise.specs.Roots.{label_of_number, MustHave, LabelMeans, LabelsTold, LabelReturned}
 use Rattle.promise.proofs.Shown as Shown
 use Rattle.promise.proofs.Shown.{never_accepted}
 use Rattle.promise.proofs.Clashes.{none_applies}
@@ -133,6 +136,20 @@ number_of_none (suc a) = (λ e. absurd (omega (arith, e)), λ e. cc)
 pub number_of_label : (r a : ℕ) → (r ≡ 1 + a) ↔ (label_of_number r ≡ some a)
 number_of_label zero a = (λ e. absurd (omega (arith, e)), λ e. cc)
 number_of_label (suc c) a = (λ e. ap some (omega (arith, e)), λ e. let same = some-injective c a e in omega (arith, same))
+
+-- So it is with the number that C gets of one variable,
+module _ {read : Result Accepted Refusal} {s : Sheet} {i r : ℕ} (returned : LabelReturned read s i r)
+    (accepted : IsAccepted read) (met : Met (Counts s)) (variable : i < s.n) where
+  pub number_exactly : (a : ℕ) → (r ≡ 1 + a) ↔ RootIs (Counts s) i a
+  number_exactly a = trans (number_of_label r a) (label_exactly returned.means accepted met variable a)
+
+  pub zero_exactly : (r ≡ 0) ↔ ((a : ℕ) → RootIs (Counts s) i a → ⊥)
+  zero_exactly = trans (number_of_none r) (dash_exactly returned.means accepted met variable)
+
+-- and with the labels of all variables at once.
+pub each_exactly : {read : Result Accepted Refusal} {s : Sheet} {labels : RootLabels} → LabelsTold read s labels
+    → IsAccepted read → Met (Counts s) → (i a : ℕ) → i < s.n → (root_at labels i ≡ some a) ↔ RootIs (Counts s) i a
+each_exactly told accepted met i a variable = label_exactly (told.mean i) accepted met variable a
 
 -- Trees may be endless and may use any whole number as feature or label: there is one that is its own child.
 pub endless : (f a : ℕ) → (t : Tree) × (IsTree t × Child t f t × Labelled t a)
