@@ -12,4 +12,5 @@ pub mod Checked
 pub mod Words
 pub mod Spelling
 pub mod Telling
+pub mod Meaning
 pub mod Theorems

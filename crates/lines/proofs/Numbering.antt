@@ -21,12 +21,12 @@ module _ (n : ℕ) (labels : ℕ → Option ℕ) (replies : List Reply) where
   question_line asked = ask_line asked.0 asked.1
 
   -- on a consistent sheet a line for each variable and question behind the first, else none
-  lines_count : (o c : ℕ) → length (lines_of n (Outcome.Consistent o c) labels replies) ≡ 1 + n + length replies
+  pub lines_count : (o c : ℕ) → length (lines_of n (Outcome.Consistent o c) labels replies) ≡ 1 + n + length replies
   unfolding other_lines
   lines_count o c = omega (arith, runs_count (var_line labels) question_line n replies)
 
   -- a line behind the first is that of a variable,
-  at_variable : (o : Outcome) (k : ℕ) → k < length (lines_of n o labels replies) → 0 < k → k ≤ n
+  pub at_variable : (o : Outcome) (k : ℕ) → k < length (lines_of n o labels replies) → 0 < k → k ≤ n
       → get_or (lines_of n o labels replies) k [] ≡ var_line labels (k - 1)
   unfolding other_lines
   at_variable o zero h some few = absurd (omega arith)

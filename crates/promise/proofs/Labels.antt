@@ -64,7 +64,7 @@ module _ {read : Result Accepted Refusal} {s : Sheet} (is : IsAccepted read) (th
         λ m. (three.labels e i a m.variable).1 m.everywhere,
       )
 
-  accepted_means : LabelMeans read s i (root_label s i)
+  pub accepted_means : LabelMeans read s i (root_label s i)
   accepted_means = decided (clashes s.stated s.n) where_clashing where_clear
 
 -- the number of a label tells the label
