@@ -1,4 +1,4 @@
-// What the closed facts say of a sheet: its clash, or the replies to its questions.
+// What the closed facts say of a sheet: its clash, or the labels of its roots and the replies to its questions.
 
 use crate::closure::Facts;
 use crate::rows::{holds, least, Grid, EMPTY};
@@ -17,6 +17,11 @@ pub fn clash(facts: &Facts, rivals: &Grid) -> Option<(usize, usize)> {
         let row = facts.mates[i] & rivals[i];
         (row != 0).then(|| (i, least(row)))
     })
+}
+
+// The label of a root under every assignment meeting a consistent sheet: the least one has there what is stated below.
+pub fn label(i: usize, sheet: &Sheet, facts: &Facts) -> Option<u16> {
+    sheet.labels.among(facts.down[i])
 }
 
 // Whether the facts of a consistent sheet support what is asked.

@@ -1,7 +1,7 @@
 // The labels stated for the variables, and which pairs of variables may not be compatible for them.
 
 use crate::numbering::Numbering;
-use crate::rows::{bit, holds, members, Grid, Row, EMPTY, MOST};
+use crate::rows::{bit, holds, least, members, Grid, Row, EMPTY, MOST};
 
 // Every label statement of a sheet.
 pub struct Labels {
@@ -39,9 +39,10 @@ impl Labels {
         self.first[i] = a;
     }
 
-    // The label stated first for variable i.
-    pub fn of(&self, i: usize) -> Option<u16> {
-        holds(self.labelled, i).then(|| self.first[i])
+    // The label stated first for the least labelled variable of a set.
+    pub fn among(&self, row: Row) -> Option<u16> {
+        let labelled = row & self.labelled;
+        (labelled != 0).then(|| self.first[least(labelled)])
     }
 
     // The variables whose first stated label is a.

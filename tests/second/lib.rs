@@ -1,6 +1,7 @@
 //! A second solver for ordering constraints over feature trees.
 //!
-//! It reads a sheet, derives its facts under `<=` and `~`, tells a clash or answers the questions of the sheet.
+//! It reads a sheet, derives its facts under `<=` and `~`, tells a clash or answers the questions of the sheet, and
+//! tells the labels that the roots have under every assignment.
 //! It keeps each relation as rows of bits and inserts whole rows of pairs at a time.
 
 mod answers;
@@ -16,7 +17,7 @@ mod trials;
 use std::fmt::Write;
 
 use closure::Facts;
-use rows::Row;
+use rows::{Grid, Row};
 use selections::Selections;
 use sheet::Sheet;
 
@@ -63,18 +64,42 @@ fn fill(facts: &Facts, n: usize, table: &mut [u8]) {
     }
 }
 
-// Derive, tell a clash or reply, for a sheet and buffers that are not refused.
-fn judge(sheet: &Sheet, facts: &mut [u8], work: &mut [u8], replies: &mut [u8]) -> u64 {
-    let mut selections = Selections::new(&sheet.selections);
-    let derived = Facts::derive(sheet, &selections);
-    fill(&derived, sheet.count, facts);
-    let rivals = sheet.labels.rivals();
-    if let Some((i, j)) = answers::clash(&derived, &rivals) {
+// A sheet and what is derived from it: its facts, and the pairs that F5 forbids.
+struct Derived {
+    sheet: Sheet,
+    selections: Selections,
+    facts: Facts,
+    rivals: Grid,
+}
+
+impl Derived {
+    // Derive all that follows from a sheet.
+    fn of(sheet: Sheet) -> Self {
+        let selections = Selections::new(&sheet.selections);
+        Derived {
+            facts: Facts::derive(&sheet, &selections),
+            rivals: sheet.labels.rivals(),
+            sheet,
+            selections,
+        }
+    }
+
+    // The clash that is told, if there is one.
+    fn clash(&self) -> Option<(usize, usize)> {
+        answers::clash(&self.facts, &self.rivals)
+    }
+}
+
+// Tell a clash or reply, for a sheet and buffers that are not refused.
+fn judge(derived: &mut Derived, facts: &mut [u8], work: &mut [u8], replies: &mut [u8]) -> u64 {
+    let sheet = &derived.sheet;
+    fill(&derived.facts, sheet.count, facts);
+    if let Some((i, j)) = derived.clash() {
         return packed(CLASH, i as u64, j as u64);
     }
     work[..sheet.count * sheet.count].fill(0);
-    answers::reply(sheet, &derived, &rivals, &mut selections, replies);
-    let (order, mates) = derived.counts();
+    answers::reply(sheet, &derived.facts, &derived.rivals, &mut derived.selections, replies);
+    let (order, mates) = derived.facts.counts();
     packed(CONSISTENT, order, mates)
 }
 
@@ -91,28 +116,51 @@ pub fn check(sheet: &[u8], facts: &mut [u8], work: &mut [u8], replies: &mut [u8]
     if replies.len() < sheet.questions.len() {
         return packed(REFUSED, 9, 0);
     }
-    judge(&sheet, facts, work, replies)
+    judge(&mut Derived::of(sheet), facts, work, replies)
+}
+
+// The label of a variable's root under every assignment meeting the sheet, plus 1; 0 where there is none.
+pub fn root_label(sheet: &[u8], variable: u32) -> u64 {
+    let i = variable as usize;
+    match sheet::read(sheet) {
+        Ok(sheet) if i < sheet.count => told(&Derived::of(sheet), i),
+        _ => 0,
+    }
+}
+
+// The label of a root, plus 1; 0 where there is none, and for a sheet that clashes.
+fn told(derived: &Derived, i: usize) -> u64 {
+    match derived.clash() {
+        None => answers::label(i, &derived.sheet, &derived.facts).map_or(0, |a| u64::from(a) + 1),
+        Some(_) => 0,
+    }
 }
 
 // What the checking program prints for its standard input.
 pub fn printed(input: &[u8]) -> String {
     let bytes = &input[..input.len().min(sheet::LONGEST + 1)];
+    match sheet::read(bytes) {
+        Ok(sheet) => accepted(sheet),
+        Err(refusal) => format!("refused {} {}\n", refusal.number, refusal.offset),
+    }
+}
+
+// The lines printed for a sheet that is not refused.
+fn accepted(sheet: Sheet) -> String {
     let (mut facts, mut work, mut replies) = (vec![0; 16_384], vec![0; 16_384], vec![0; 1_024]);
-    match unpacked(check(bytes, &mut facts, &mut work, &mut replies)) {
-        (CONSISTENT, order, mates) => consistent(bytes, order, mates, &replies),
+    let mut derived = Derived::of(sheet);
+    match unpacked(judge(&mut derived, &mut facts, &mut work, &mut replies)) {
         (CLASH, i, j) => format!("clash {i} {j}\n"),
-        (_, number, offset) => format!("refused {number} {offset}\n"),
+        (_, order, mates) => consistent(&derived, order, mates, &replies),
     }
 }
 
 // The lines printed for a consistent sheet.
-fn consistent(bytes: &[u8], order: u64, mates: u64, replies: &[u8]) -> String {
-    let Ok(sheet) = sheet::read(bytes) else {
-        return String::new();
-    };
+fn consistent(derived: &Derived, order: u64, mates: u64, replies: &[u8]) -> String {
+    let sheet = &derived.sheet;
     let mut text = format!("consistent {} {order} {mates}\n", sheet.count);
     for v in 0..sheet.count {
-        let label = sheet.labels.of(v).map_or("-".to_string(), |a| a.to_string());
+        let label = answers::label(v, sheet, &derived.facts).map_or("-".to_string(), |a| a.to_string());
         let _ = writeln!(text, "var {v} {label}");
     }
     for (q, &reply) in replies.iter().take(sheet.questions.len()).enumerate() {

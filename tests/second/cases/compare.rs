@@ -2,6 +2,7 @@
 
 use std::collections::BTreeMap;
 
+use crate::bytes::encode;
 use crate::plain::Said::{self, Below, Labelled, Mates, Selects};
 use crate::plain::{self, Expected, Plain};
 
@@ -30,6 +31,69 @@ pub fn compare(sheet: &Plain, bytes: &[u8], expected: &Expected) {
         "outcome {outcome} wanted {wanted}\nreplies {replies:?}\nwanted {wanted_replies:?}\n{sheet:?}"
     );
     assert_eq!(second::printed(bytes), text(sheet, expected), "{sheet:?}");
+    compare_labels(sheet, bytes, &expected.labels);
+}
+
+// The label of each root must be told, and none for a number that is no variable.
+fn compare_labels(sheet: &Plain, bytes: &[u8], labels: &[Option<u16>]) {
+    for (i, label) in labels.iter().enumerate() {
+        let wanted = label.map_or(0, |a| u64::from(a) + 1);
+        assert_eq!(second::root_label(bytes, i as u32), wanted, "variable {i}: {sheet:?}");
+    }
+    no_labels(bytes, &beyond(sheet.n));
+}
+
+// Numbers that are no variable of a sheet with n variables.
+pub fn beyond(n: usize) -> [u32; 7] {
+    let n = n as u32;
+    [n, 128, 255, 256, 256 + n, 65_536, u32::MAX]
+}
+
+// No label may be told for the numbers.
+pub fn no_labels(bytes: &[u8], numbers: &[u32]) {
+    for &number in numbers {
+        assert_eq!(second::root_label(bytes, number), 0, "number {number}: {bytes:?}");
+    }
+}
+
+// On a consistent sheet a label must be told at a root exactly where a question for it, asked last, is always.
+pub fn compare_asked(sheet: &Plain, expected: &Expected) {
+    if expected.kind != 0 {
+        return;
+    }
+    let names = names(sheet);
+    let asked: Vec<Said> = (0..sheet.n)
+        .flat_map(|i| names.iter().map(move |&a| Labelled(i, a)))
+        .collect();
+    let mut longer = sheet.clone();
+    longer.questions.extend(&asked);
+    let (mut facts, mut work) = (vec![MARK; sheet.n * sheet.n], vec![MARK; sheet.n * sheet.n]);
+    let mut replies = vec![MARK; longer.questions.len()];
+    let outcome = second::check(&encode(&longer), &mut facts, &mut work, &mut replies);
+    assert_eq!(outcome & 255, 0, "{longer:?}");
+    for (one, reply) in asked.iter().zip(&replies[sheet.questions.len()..]) {
+        let told = matches!(*one, Labelled(i, a) if expected.labels[i] == Some(a));
+        assert_eq!(told, *reply == 0, "{one:?}: {sheet:?}");
+    }
+}
+
+// The labels that a sheet names, and the least that it does not.
+fn names(sheet: &Plain) -> Vec<u16> {
+    let said = [sheet.records.concat(), sheet.questions.clone()].concat();
+    let mut names: Vec<u16> = said.iter().filter_map(named).collect();
+    names.sort();
+    names.dedup();
+    let other = (0..=u16::MAX).find(|a| !names.contains(a));
+    names.extend(other);
+    names
+}
+
+// The label that a statement or question names.
+fn named(one: &Said) -> Option<u16> {
+    match *one {
+        Labelled(_, a) => Some(a),
+        _ => None,
+    }
 }
 
 // What the program must print for a lawful sheet.
@@ -38,12 +102,8 @@ fn text(sheet: &Plain, expected: &Expected) -> String {
         return format!("clash {} {}\n", expected.first, expected.second);
     }
     let mut text = format!("consistent {} {} {}\n", sheet.n, expected.first, expected.second);
-    for v in 0..sheet.n {
-        let stated = sheet.records.concat().into_iter().find_map(|one| match one {
-            Labelled(i, a) if i == v => Some(a.to_string()),
-            _ => None,
-        });
-        text += &format!("var {v} {}\n", stated.unwrap_or("-".to_string()));
+    for (v, label) in expected.labels.iter().enumerate() {
+        text += &format!("var {v} {}\n", label.map_or("-".to_string(), |a| a.to_string()));
     }
     for (q, &reply) in expected.replies.iter().enumerate() {
         text += &format!("ask {q} {}\n", ["always", "never", "open"][reply as usize]);
@@ -63,6 +123,7 @@ pub fn compare_refusal(bytes: &[u8], lengths: [usize; 3], number: u64, offset: u
     assert!([facts, work, replies].concat().iter().all(|&byte| byte == MARK));
     if number < 8 {
         assert_eq!(second::printed(bytes), format!("refused {number} {offset}\n"));
+        no_labels(bytes, &[0, 1, 2, 3, 127, 128, 255, 256, 65_536, u32::MAX]);
     }
 }
 
@@ -85,15 +146,30 @@ impl Tally {
     }
 }
 
-// Note the outcome and the replies by form of question.
+// Note the outcome, the labels by where they are stated, and the replies by form of question.
 pub fn note(tally: &mut Tally, sheet: &Plain, expected: &Expected) {
     tally.add(format!("sheets, {}", ["consistent", "clash"][expected.kind as usize]));
+    note_labels(tally, sheet, expected);
     for (question, &reply) in sheet.questions.iter().zip(&expected.replies) {
         let form = ["<=", "~", "[f]", "label"][form(question)];
         tally.add(format!(
             "replies, {form} {}",
             ["always", "never", "open"][reply as usize]
         ));
+    }
+}
+
+// Note for each root of a consistent sheet whether it has a label, and whether one is stated for it.
+fn note_labels(tally: &mut Tally, sheet: &Plain, expected: &Expected) {
+    let said = sheet.records.concat();
+    for (v, label) in expected.labels.iter().enumerate().filter(|_| expected.kind == 0) {
+        let stated = said.iter().any(|one| matches!(one, Labelled(i, _) if *i == v));
+        let place = match label {
+            None => "none",
+            Some(_) if stated => "stated there",
+            Some(_) => "stated below alone",
+        };
+        tally.add(format!("labels, {place}"));
     }
 }
 

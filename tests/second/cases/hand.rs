@@ -1,9 +1,10 @@
 // The cases written by hand: those of the scope paper and some traps.
 
 use crate::bytes::{decode, encode};
-use crate::compare::{compare, compare_refusal};
+use crate::compare::{beyond, compare, compare_asked, compare_refusal, no_labels};
 use crate::plain::Said::{self, Below, Labelled, Mates, Selects};
 use crate::plain::{self, Plain};
+use crate::trees;
 
 // The statements written as 0<=1, 0~1, 0[7]1 or 5(0), with blanks between.
 fn said(text: &str) -> Vec<Said> {
@@ -40,7 +41,7 @@ const NUMBERED: [(usize, &str, &str, &str); 10] = [
     (3, "0<=2 1<=2 5(0) 6(1)", "", "clash 0 1"),
     (2, "0[1]0 0<=1 1[1]1", "", "consistent 2 3 4;v -;v -"),
     (3, "0[1]1 0[1]2 5(1) 6(2)", "", "clash 1 2"),
-    (2, "5(0) 0<=1", "5(1) 6(1)", "consistent 2 3 4;v 5;v -;a always;a never"),
+    (2, "5(0) 0<=1", "5(1) 6(1)", "consistent 2 3 4;v 5;v 5;a always;a never"),
     (3, "0[1]1 0<=2 2<=0", "2[1]1", "consistent 3 5 5;v -;v -;v -;a always"),
     (3, "0[1]1 0<=2", "2[1]1", "consistent 3 4 5;v -;v -;v -;a open"),
     (1, "", "0[9]0", "consistent 1 1 1;v -;a open"),
@@ -79,6 +80,109 @@ fn long_text(short: &str) -> String {
         }
     }
     text
+}
+
+// Sheets, and what is told of each root: one more than its label, or 0.
+const ROOTS: [(usize, &str, &[u64]); 34] = [
+    (2, "", &[0, 0]),
+    (1, "5(0)", &[6]),
+    (2, "5(0) 0<=1", &[6, 6]),
+    (2, "5(0) 1<=0", &[6, 0]),
+    (3, "5(1) 0<=1 1<=2", &[0, 6, 6]),
+    (2, "5(0) 0~1", &[6, 0]),
+    (2, "5(1) 0~1", &[0, 6]),
+    (3, "5(0) 0<=1 1~2", &[6, 6, 0]),
+    (3, "5(0) 0~1 1<=2", &[6, 0, 0]),
+    (3, "5(0) 0<=2 1<=2", &[6, 0, 6]),
+    (3, "5(0) 0<=1 0<=2", &[6, 6, 6]),
+    (2, "5(1) 0[1]1", &[0, 6]),
+    (2, "5(0) 0[1]1", &[6, 0]),
+    (2, "0[5]1 0<=1", &[0, 0]),
+    (4, "5(1) 0[1]1 2[1]3 0<=2", &[0, 6, 0, 6]),
+    (4, "5(3) 0[1]1 2[1]3 0<=2", &[0, 0, 0, 6]),
+    (4, "5(1) 0[1]1 2[2]3 0<=2", &[0, 6, 0, 0]),
+    (4, "5(1) 0[1]1 2[1]3 0~2", &[0, 6, 0, 0]),
+    (3, "5(1) 0[1]1 0[1]2", &[0, 6, 6]),
+    (6, "5(2) 0[1]1 1[2]2 3[1]4 4[2]5 0<=3", &[0, 0, 6, 0, 0, 6]),
+    (4, "7(0) 0<=1 1<=2 2<=3", &[8, 8, 8, 8]),
+    (4, "7(2) 0<=1 1<=2 2<=3", &[0, 0, 8, 8]),
+    (4, "7(3) 3<=2 2<=1 1<=0", &[8, 8, 8, 8]),
+    (4, "7(1) 0<=1 1<=2 2<=0 2<=3", &[8, 8, 8, 8]),
+    (4, "7(3) 0<=1 1<=2 2<=0 2<=3", &[0, 0, 0, 8]),
+    (2, "5(0) 0[1]0 0<=1 1[1]1", &[6, 6]),
+    (3, "5(1) 0[1]1 1[1]0 2[1]2 0<=2", &[0, 6, 6]),
+    (3, "5(0) 5(1) 0<=2 1<=2", &[6, 6, 6]),
+    (3, "5(0) 5(1) 5(2) 0<=1 1<=2", &[6, 6, 6]),
+    (4, "5(0) 6(1) 0<=2 1<=3", &[6, 7, 6, 7]),
+    (4, "6(1) 5(0) 1<=3 0<=2", &[6, 7, 6, 7]),
+    (2, "0(0) 0<=1", &[1, 1]),
+    (2, "65535(0) 0<=1", &[65_536, 65_536]),
+    (3, "256(0) 1(1) 0<=2", &[257, 2, 257]),
+];
+
+// Sheets that clash, in which no label is told.
+const CLASHING: [(usize, &str); 4] = [
+    (1, "5(0) 6(0)"),
+    (3, "0<=2 1<=2 5(0) 6(1)"),
+    (4, "7(0) 0<=1 5(2) 6(3) 2~3"),
+    (4, "7(3) 0[1]1 0[1]2 5(1) 6(2)"),
+];
+
+// Labels stated below, above, beside, under features, along chains and cycles.
+pub fn root_labels() {
+    for (n, records, wanted) in ROOTS {
+        let sheet = sheet(n, records, "5(0) 9(0) 0<=0");
+        let bytes = encode(&sheet);
+        let told: Vec<u64> = (0..n as u32).map(|i| second::root_label(&bytes, i)).collect();
+        assert_eq!(told, wanted, "{records}");
+        let expected = plain::solve(&sheet);
+        compare(&sheet, &bytes, &expected);
+        compare_asked(&sheet, &expected);
+        assert_eq!(trees::roots(&sheet), Some(expected.labels), "{records}");
+    }
+    for (n, records) in CLASHING {
+        let sheet = sheet(n, records, "");
+        assert_eq!(
+            (plain::solve(&sheet).kind, trees::roots(&sheet)),
+            (1, None),
+            "{records}"
+        );
+        no_labels(&encode(&sheet), &[&[0, 1, 2, 3][..], &beyond(n)].concat());
+    }
+    println!("labels of roots: right");
+}
+
+// No label is told of what is refused, nor for a number that is no variable.
+pub fn root_labels_of_no_sheet() {
+    let whole = encode(&sheet(2, "5(0) 0<=1", "5(1) 6(1)"));
+    assert_eq!([0, 1].map(|i| second::root_label(&whole, i)), [6, 6]);
+    no_labels(
+        &whole,
+        &[2, 3, 127, 128, 129, 255, 256, 257, 65_536, 65_537, 1 << 31, u32::MAX],
+    );
+    for length in 0..whole.len() {
+        no_labels(&whole[..length], &[0, 1, 2]);
+    }
+    for (at, value) in [
+        (0, 15),
+        (1, 0),
+        (1, 129),
+        (1, 1),
+        (2, 5),
+        (4, 5),
+        (6, 16),
+        (11, 2),
+        (14, 9),
+    ] {
+        let mut bytes = whole.clone();
+        bytes[at] = value;
+        assert!(second::printed(&bytes).starts_with("refused"), "{at} {value}");
+        no_labels(&bytes, &[0, 1, 2]);
+    }
+    no_labels(&[&whole[..], &[0]].concat(), &[0, 1, 2]);
+    let last = encode(&sheet(128, "5(126) 126<=127", ""));
+    assert_eq!([125, 126, 127].map(|i| second::root_label(&last, i)), [0, 6, 6]);
+    println!("labels of no sheet and of no variable: right");
 }
 
 // The bare variables of a sheet without records: the trap of judging by smallest trees.
@@ -181,9 +285,11 @@ pub fn longest_sheet() {
     let bytes = [&[7, 128, 4, 0, 4, 0][..], &record.repeat(1024), &question.repeat(1024)].concat();
     assert_eq!(bytes.len(), 14_342);
     assert!(second::printed(&bytes).starts_with("consistent 128 128 128\n"));
+    assert_eq!([0, 126, 127].map(|i| second::root_label(&bytes, i)), [0, 0, 259]);
     for more in [1, 2, 5_000] {
         let longer = [&bytes[..], &vec![0; more]].concat();
         assert_eq!(second::printed(&longer), "refused 7 14342\n");
+        no_labels(&longer, &[0, 127, 128]);
     }
     println!("longest sheet: right");
 }

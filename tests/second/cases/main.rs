@@ -6,9 +6,10 @@ mod compare;
 mod hand;
 mod plain;
 mod sheets;
+mod trees;
 
 use bytes::{decode, encode};
-use compare::{compare, compare_refusal, note, note_rules, Tally};
+use compare::{compare, compare_asked, compare_refusal, note, note_rules, Tally};
 use plain::Said::{self, Below, Labelled, Mates, Selects};
 use plain::{Expected, Plain};
 use sheets::{block_sheet, cycle_sheet, grown_sheet, joint_sheet, random_sheet, Dice, Shape};
@@ -66,6 +67,7 @@ const SHAPES: [Shape; 7] = [
 fn hold(sheet: &Plain, tally: &mut Tally) {
     let expected = plain::solve(sheet);
     compare(sheet, &encode(sheet), &expected);
+    compare_asked(sheet, &expected);
     note(tally, sheet, &expected);
 }
 
@@ -94,6 +96,27 @@ fn grown_sheets(dice: &mut Dice, rounds: usize) {
         }
     }
     tally.print("grown consistent sheets");
+}
+
+// Small sheets whose least trees are there exactly where there is no clash, and have the labels told at their roots.
+fn tree_sheets(dice: &mut Dice, rounds: usize) {
+    let mut tally = Tally::default();
+    for round in 0..rounds {
+        let percents = SHAPES[round % SHAPES.len()].percents;
+        let sheet = random_sheet(
+            dice,
+            &Shape {
+                variables: 5,
+                percents,
+                ..SMALL
+            },
+        );
+        let expected = plain::solve(&sheet);
+        let labels = (expected.kind == 0).then(|| expected.labels.clone());
+        assert_eq!(trees::roots(&sheet), labels, "{sheet:?}");
+        hold(&sheet, &mut tally);
+    }
+    tally.print("small sheets and their least trees");
 }
 
 // Sheets around two cycles of selections, whose trials reach far.
@@ -157,6 +180,7 @@ fn spread_sheets(dice: &mut Dice, rounds: usize) {
         let expected = spread_expected(&small, &plain::solve(&small), &places, n);
         let sheet = spread_sheet(&small, &places, n);
         compare(&sheet, &encode(&sheet), &expected);
+        compare_asked(&sheet, &expected);
         note(&mut tally, &sheet, &expected);
     }
     tally.print("small sheets spread over 60 to 128 variables");
@@ -191,6 +215,8 @@ fn spread_expected(small: &Plain, expected: &Expected, places: &[usize], n: usiz
             table[places[i] * n + places[j]] = expected.table[i * small.n + j];
         }
     }
+    let mut labels = vec![None; n];
+    (0..small.n).for_each(|i| labels[places[i]] = expected.labels[i]);
     let more = (n - small.n) as u64;
     let (first, second) = match expected.kind {
         0 => (expected.first + more, expected.second + more),
@@ -204,6 +230,7 @@ fn spread_expected(small: &Plain, expected: &Expected, places: &[usize], n: usiz
         first,
         second,
         table,
+        labels,
         replies: expected.replies.clone(),
     }
 }
@@ -301,6 +328,8 @@ fn main() {
     let seed: u64 = std::env::args().nth(2).and_then(|text| text.parse().ok()).unwrap_or(1);
     let mut dice = Dice(0x9e37_79b9_7f4a_7c15_u64.wrapping_mul(2 * seed + 1));
     hand::numbered_cases();
+    hand::root_labels();
+    hand::root_labels_of_no_sheet();
     hand::trap_of_smallest_trees();
     hand::joint_reasons();
     hand::kept_facts();
@@ -308,6 +337,7 @@ fn main() {
     hand::refusals_by_place();
     hand::longest_sheet();
     small_sheets(&mut dice, 7_000 * scale);
+    tree_sheets(&mut dice, 1_000 * scale);
     grown_sheets(&mut dice, 2_000 * scale);
     cycle_sheets(&mut dice, 400 * scale);
     block_sheets(&mut dice, 150 * scale);

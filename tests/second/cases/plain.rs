@@ -31,6 +31,7 @@ pub struct Expected {
     pub first: u64,
     pub second: u64,
     pub table: Vec<u8>,
+    pub labels: Vec<Option<u16>>,
     pub replies: Vec<u8>,
 }
 
@@ -155,6 +156,33 @@ pub fn reply(n: usize, question: Said, said: &[Said], t: &Tables) -> u8 {
     }
 }
 
+// One round of the rule that i <= j and a(i) give a(j), which the paper leaves out of Table 1 for simplicity only.
+fn round_of_labels(n: usize, t: &Tables, labels: &mut [Option<u16>]) -> bool {
+    let mut more = false;
+    for i in 0..n {
+        for j in 0..n {
+            if t.below[i][j] && labels[i].is_some() && labels[i] != labels[j] {
+                assert_eq!(labels[j], None, "two labels at one root of a consistent sheet");
+                labels[j] = labels[i];
+                more = true;
+            }
+        }
+    }
+    more
+}
+
+// The labels of the roots of a consistent sheet: those stated, and what that rule adds to them.
+fn labels(n: usize, said: &[Said], t: &Tables) -> Vec<Option<u16>> {
+    let mut labels = vec![None; n];
+    for one in said {
+        if let Labelled(i, a) = *one {
+            labels[i] = Some(a);
+        }
+    }
+    while round_of_labels(n, t, &mut labels) {}
+    labels
+}
+
 // The bytes of the first table.
 pub fn bytes(n: usize, t: &Tables) -> Vec<u8> {
     (0..n * n)
@@ -174,6 +202,7 @@ pub fn solve(sheet: &Plain) -> Expected {
             first: i as u64,
             second: j as u64,
             table,
+            labels: vec![None; n],
             replies: Vec::new(),
         };
     }
@@ -183,6 +212,7 @@ pub fn solve(sheet: &Plain) -> Expected {
         kind: 0,
         first: count(1),
         second: count(2),
+        labels: labels(n, &said, &t),
         replies,
         table,
     }
