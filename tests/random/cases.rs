@@ -6,11 +6,17 @@ use crate::lent::Lengths;
 use crate::numbers::Numbers;
 use crate::sheets::Sheet;
 
-/// What is known of a sheet: it is whole, with questions of these maps; damaged at a place; or nothing.
+/// What is known of a sheet: it is whole, damaged at a place, or nothing.
 pub enum Known {
-    Whole(Vec<u8>),
+    Whole(Whole),
     Damaged(Damage),
     Nothing,
+}
+
+/// The maps of a sheet's questions, and the variables for which a label is stated.
+pub struct Whole {
+    pub questions: Vec<u8>,
+    pub labelled: Vec<usize>,
 }
 
 /// Which lengths of buffers to lend: somewhat more than a sheet needs, every length around the limits, or the most.
@@ -31,7 +37,8 @@ pub struct Case {
 impl Case {
     fn whole(sheet: &Sheet, lending: Lending) -> Case {
         let questions = sheet.questions.iter().map(|item| item.map()).collect();
-        Case { bytes: sheet.bytes(), known: Known::Whole(questions), lending }
+        let labelled = sheet.records.iter().filter(|item| item.label.is_some()).map(|item| item.subject).collect();
+        Case { bytes: sheet.bytes(), known: Known::Whole(Whole { questions, labelled }), lending }
     }
 
     fn damaged(damaged: damage::Damaged) -> Case {
@@ -51,6 +58,7 @@ pub fn cases(family: &str, numbers: &mut Numbers) -> Vec<Case> {
         "clash-by-f4" => families::clash_by_f4,
         "clash-on-trial" => families::clash_on_trial,
         "clash-through-trial" => families::clash_through_trial,
+        "label-below" => families::label_below,
         "cyclic" => families::cyclic,
         "deep" => families::deep,
         "dense" => families::dense,
@@ -69,12 +77,12 @@ fn around(sheet: &Sheet) -> Vec<Case> {
 }
 
 fn damaged_cases(family: &str, numbers: &mut Numbers) -> Vec<Case> {
-    let sheet = damage::base(numbers);
+    let sheet = if family == "trailing-longest" { families::longest(numbers) } else { damage::base(numbers) };
     let all = match family {
         "cut" => damage::cuts(&sheet),
         "wrong-field" => damage::wrong_fields(&sheet),
         "changed-byte" => damage::changed_bytes(numbers, &sheet),
-        "trailing" => damage::trailing(numbers, &sheet),
+        "trailing" | "trailing-longest" => damage::trailing(numbers, &sheet),
         "noise" => return vec![Case { bytes: damage::noise(numbers), known: Known::Nothing, lending: Lending::Most }],
         "lengths" => return around(&families::small(numbers)),
         "lengths-of-longest" => return around(&families::longest(numbers)),
@@ -85,7 +93,7 @@ fn damaged_cases(family: &str, numbers: &mut Numbers) -> Vec<Case> {
 
 /// The lengths to lend for a case.
 pub fn lengths(case: &Case, numbers: &mut Numbers) -> Vec<Lengths> {
-    let questions = if let Known::Whole(questions) = &case.known { questions.len() } else { 0 };
+    let questions = if let Known::Whole(whole) = &case.known { whole.questions.len() } else { 0 };
     match case.lending {
         Lending::Most => vec![Lengths { facts: 16_384, work: 16_384, replies: 1_024 }],
         Lending::Enough(table) => {

@@ -1,7 +1,8 @@
-//! One sheet through the engine and through the second solver: the call from C, and the program.
+//! One sheet through the engine and through the second solver: the calls from C, and the program.
 
 use crate::calls;
 use crate::cases::{lengths, Case, Known};
+use crate::labels;
 use crate::lent::{Lengths, Lent};
 use crate::numbers::Numbers;
 use crate::tally::Tally;
@@ -23,7 +24,7 @@ fn compare_call(case: &Case, lengths: Lengths, numbers: &mut Numbers, tally: &mu
     }
     tally.outcome(outcome);
     match (outcome & 255, &case.known) {
-        (0, Known::Whole(questions)) => tally.reply(questions, engine.replies()),
+        (0, Known::Whole(whole)) => tally.reply(&whole.questions, engine.replies()),
         (2, Known::Whole(_)) if outcome >> 8 & 255 < 8 => return Err("a sheet that is whole is refused".to_string()),
         (2, Known::Damaged(damage)) => tally.refused_at(damage, outcome),
         _ => {}
@@ -63,5 +64,6 @@ pub fn compare(program: &str, case: &Case, numbers: &mut Numbers, tally: &mut Ta
     for lengths in lengths(case, numbers) {
         compare_call(case, lengths, numbers, tally)?;
     }
+    labels::compare(case, numbers, tally)?;
     compare_run(program, case, tally)
 }

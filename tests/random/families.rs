@@ -267,6 +267,49 @@ pub fn clash_through_trial(numbers: &mut Numbers) -> Sheet {
     sheet
 }
 
+/// Labels on the lower of two paths, which the upper one has to have too, and variables above, below and beside both.
+pub fn label_below(numbers: &mut Numbers) -> Sheet {
+    let palette = Palette { features: vec![0, 1, 2], labels: vec![0, 5, 6, 65_535] };
+    let depth = numbers.between(0, 5);
+    let mut sheet = two_paths(numbers, depth, &palette).sheet;
+    sheet.records.truncate(2 * depth);
+    let chosen = numbers.pick(&[Link::Ordered, Link::Ordered, Link::Turned, Link::Compatible]);
+    link(numbers, chosen, (0, 1), sheet.n).into_iter().for_each(|said| sheet.state(said));
+    for k in 0..=depth {
+        if !numbers.once_in(3) {
+            sheet.state(Said::Labelled(palette.label(numbers), 2 * k));
+        }
+    }
+    for _ in 0..numbers.between(0, 6) {
+        state_neighbour(numbers, &mut sheet, &palette);
+    }
+    if numbers.once_in(3) {
+        let f = palette.feature(numbers);
+        let back = [Said::Selected(2 * depth, f, 0), Said::Selected(2 * depth + 1, f, 1)];
+        back.into_iter().for_each(|said| sheet.state(said));
+    }
+    sheet.records = shuffled(numbers, sheet.records.len()).into_iter().map(|k| sheet.records[k].clone()).collect();
+    let questions = numbers.between(0, 8);
+    ask_anything(numbers, &mut sheet, &palette, questions);
+    sheet
+}
+
+/// One more variable: above or below some other, as much as it, beside it, or above it with a label.
+fn state_neighbour(numbers: &mut Numbers, sheet: &mut Sheet, palette: &Palette) {
+    let (other, new) = (numbers.below(sheet.n), sheet.n);
+    sheet.n += 1;
+    match numbers.below(6) {
+        0 => sheet.state(Said::Compatible(other, new)),
+        1 => sheet.state(Said::Ordered(new, other)),
+        2 => [Said::Ordered(new, other), Said::Ordered(other, new)].into_iter().for_each(|said| sheet.state(said)),
+        3 => {
+            sheet.state(Said::Ordered(other, new));
+            sheet.state_together(Said::Labelled(palette.label(numbers), new));
+        }
+        _ => sheet.state(Said::Ordered(other, new)),
+    }
+}
+
 /// Selections that come back to where they started, cycles of any two lengths.
 pub fn cyclic(numbers: &mut Numbers) -> Sheet {
     let (p, q) = (numbers.between(1, 9), numbers.between(1, 9));

@@ -54,6 +54,11 @@ impl Lent {
         check(&front[sheet..sheet + self.sheet], &mut first[..m], &mut second[..w], &mut third[..q])
     }
 
+    /// Lends the sheet alone.
+    pub fn lend_sheet(&mut self, call: impl Fn(&[u8]) -> u64) -> u64 {
+        call(&self.bytes[GUARD..GUARD + self.sheet])
+    }
+
     /// Says in which part the first byte that differs lies.
     pub fn differs_from(&self, other: &Lent) -> Option<String> {
         let at = (0..self.bytes.len()).find(|&k| self.bytes[k] != other.bytes[k])?;

@@ -1,14 +1,16 @@
 //! Holds the engine against the second solver on sheets from stored seeds.
 //!
 //! `random compare SEEDS PROGRAM`: each sheet goes through the checking program, whose output has to be what the second
-//! solver prints, and through the call from C: the outcome and every byte of the memory around the call have to be the
-//! same as the second solver's. `random clashes SEEDS FAMILY` counts the clashes of one family by both.
+//! solver prints, and through the calls from C: the outcome, every byte of the memory around the call, and the roots'
+//! labels have to be the same as the second solver's. `random clashes SEEDS FAMILY` counts the clashes of one family by
+//! both.
 
 mod calls;
 mod cases;
 mod compare;
 mod damage;
 mod families;
+mod labels;
 mod lent;
 mod numbers;
 #[path = "../../bench/ordinary.rs"]
@@ -64,12 +66,17 @@ fn compare_all(program: &str, lines: &[Line]) -> Result<Vec<Tally>, String> {
 fn report(lines: &[Line], tallies: &[Tally]) -> bool {
     let mut all = Tally::default();
     let mut missing = Vec::new();
-    println!("{:>20} {:>8} {:>8} {:>8} {:>10} {:>8}", "family", "sheets", "refused", "clash", "consistent", "never");
+    println!(
+        "{:>20} {:>8} {:>8} {:>8} {:>10} {:>8} {:>8}",
+        "family", "sheets", "refused", "clash", "consistent", "never", "unstated"
+    );
     for (line, tally) in lines.iter().zip(tallies) {
         let (refused, never) = (tally.refused.iter().sum::<u64>(), tally.never());
-        let Tally { sheets, clashed, consistent, .. } = tally;
-        println!("{:>20} {sheets:>8} {refused:>8} {clashed:>8} {consistent:>10} {never:>8}", line.family);
-        if line.family.starts_with("clash-by") && *clashed == 0 || line.family.contains("-trial") && never == 0 {
+        let Tally { sheets, clashed, consistent, labels: [_, _, unstated], .. } = tally;
+        println!("{:>20} {sheets:>8} {refused:>8} {clashed:>8} {consistent:>10} {never:>8} {unstated:>8}", line.family);
+        let for_clash = line.family.starts_with("clash-by") && *clashed == 0;
+        let for_trial = line.family.contains("-trial") && never == 0;
+        if for_clash || for_trial || line.family == "label-below" && *unstated == 0 {
             missing.push(format!("what {} is for", line.family));
         }
         all.add(tally);
@@ -80,7 +87,9 @@ fn report(lines: &[Line], tallies: &[Tally]) -> bool {
             missing.push(name);
         }
     }
-    println!("{} sheets, {} runs of the program, {} calls, 0 differences", all.sheets, all.runs, all.calls);
+    let Tally { sheets, runs, calls, labels: [asked, told, unstated], .. } = all;
+    let labels = format!("{asked} labels asked, {told} told, {unstated} not stated there");
+    println!("{sheets} sheets, {runs} runs of the program, {calls} calls, {labels}, 0 differences");
     if !missing.is_empty() {
         println!("not seen at all: {}", missing.join(", "));
     }

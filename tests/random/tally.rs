@@ -11,6 +11,8 @@ pub struct Tally {
     pub refused: [u64; 10],
     pub clashed: u64,
     pub consistent: u64,
+    /// Numbers for which a root's label was asked, those with one, and of these the variables that have none stated.
+    pub labels: [u64; 3],
     /// By the kind of question, then by reply.
     pub replies: [[u64; 3]; 4],
     /// Sheets that were damaged at a place and refused there, by the refusal's number.
@@ -42,6 +44,7 @@ const PLACES: [(Place, &str, Option<usize>); 19] = [
 
 const KINDS: [&str; 4] = ["i <= j", "i ~ j", "i[f]j", "a(i)"];
 const REPLIES: [&str; 3] = ["always", "never", "open"];
+const LABELS: [&str; 3] = ["asked of a root", "told", "told but not stated there"];
 
 impl Tally {
     /// Counts an outcome that both solvers agree on.
@@ -59,6 +62,13 @@ impl Tally {
         for (map, &reply) in maps.iter().zip(replies) {
             self.replies[map.trailing_zeros() as usize][reply as usize] += 1;
         }
+    }
+
+    /// Counts what was told of a root, by both solvers, and whether no label is stated for its variable.
+    pub fn label(&mut self, told: bool, unstated: bool) {
+        self.labels[0] += 1;
+        self.labels[1] += u64::from(told);
+        self.labels[2] += u64::from(told && unstated);
     }
 
     /// How many questions got the reply never.
@@ -81,6 +91,7 @@ impl Tally {
         self.clashed += other.clashed;
         self.consistent += other.consistent;
         add_each(&mut self.refused, &other.refused);
+        add_each(&mut self.labels, &other.labels);
         for (mine, theirs) in self.places.iter_mut().zip(&other.places) {
             add_each(mine, theirs);
         }
@@ -94,6 +105,7 @@ impl Tally {
         let mut all: Vec<(String, u64)> = (1..10).map(|k| (format!("refused by {k}"), self.refused[k])).collect();
         all.push(("clash".to_string(), self.clashed));
         all.push(("consistent".to_string(), self.consistent));
+        all.extend(LABELS.iter().zip(&self.labels).map(|(what, &count)| (format!("label {what}"), count)));
         for (kind, counts) in KINDS.iter().zip(&self.replies) {
             all.extend(REPLIES.iter().zip(counts).map(|(reply, &count)| (format!("{kind} {reply}"), count)));
         }
