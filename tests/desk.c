@@ -1,6 +1,6 @@
 // Calls the check as a C program does, on sheets with a known outcome and with buffers of many
 // lengths, and compares the outcome and every byte that was lent; then asks which tests may be left
-// out.
+// out, and which labels all trees have.
 #define _DEFAULT_SOURCE
 #include "desk.h"
 #include "dolvreki.h"
@@ -210,12 +210,12 @@ static void catch_faults(void)
         stop("sigaction");
 }
 
-// A call on the parts that are lent, which may be about a question.
-typedef uint64_t lending_call(uint32_t question);
+// A call on the parts that are lent, which may be about a question or a variable.
+typedef uint64_t lending_call(uint32_t number);
 
-static uint64_t call_check(uint32_t question)
+static uint64_t call_check(uint32_t number)
 {
-    (void)question;
+    (void)number;
     return check_sheet(lent(SHEET), parts[SHEET].length, lent(FACTS), parts[FACTS].length,
         lent(WORK), parts[WORK].length, lent(REPLIES), parts[REPLIES].length);
 }
@@ -229,12 +229,17 @@ static uint64_t call_drop(uint32_t question)
     return byte;
 }
 
+static uint64_t call_label(uint32_t variable)
+{
+    return root_label(lent(SHEET), parts[SHEET].length, variable);
+}
+
 // Makes a call: whether it comes back.
-static bool comes_back(lending_call *call, uint32_t question, uint64_t *found)
+static bool comes_back(lending_call *call, uint32_t number, uint64_t *found)
 {
     calling = 1;
     if (sigsetjmp(before_call, 1) == 0) {
-        *found = call(question);
+        *found = call(number);
         calling = 0;
         return true;
     }
@@ -259,11 +264,11 @@ static void report_touch(const struct sheet *sheet)
 }
 
 // Makes a call and looks at all rooms: whether it comes back.
-static bool make_call(const struct sheet *sheet, lending_call *call, uint32_t question,
+static bool make_call(const struct sheet *sheet, lending_call *call, uint32_t number,
     uint64_t *found)
 {
     calls++;
-    if (!comes_back(call, question, found)) {
+    if (!comes_back(call, number, found)) {
         report_touch(sheet);
         return false;
     }
@@ -283,13 +288,25 @@ static void check_call(const struct sheet *sheet)
         compare_outcome(sheet, &outcome, found);
 }
 
-bool ask_drop(const struct sheet *sheet, uint32_t question, bool none, uint64_t *found)
+// Makes a call that is lent the sheet alone.
+static bool ask_alone(const struct sheet *sheet, lending_call *call, uint32_t number, bool none,
+    uint64_t *found)
 {
     for (int p = 0; p < PARTS; p++)
         parts[p].length = p == SHEET ? sheet->bytes.length : 0;
     null_for_none = none;
     fill_rooms(sheet);
-    return make_call(sheet, call_drop, question, found);
+    return make_call(sheet, call, number, found);
+}
+
+bool ask_drop(const struct sheet *sheet, uint32_t question, bool none, uint64_t *found)
+{
+    return ask_alone(sheet, call_drop, question, none, found);
+}
+
+bool ask_label(const struct sheet *sheet, uint32_t variable, bool none, uint64_t *found)
+{
+    return ask_alone(sheet, call_label, variable, none, found);
 }
 
 // The call, and where a part has no bytes the same with null pointers.
@@ -342,7 +359,12 @@ static void check_sheets(check_function *check)
     built_sheets(check);
 }
 
-// Fails too where may_drop never gave true, or never false.
+// Whether a call never gave 0, or never anything else.
+static bool one_sided(const struct asking *asking)
+{
+    return asking->given == 0 || asking->given == asking->compared;
+}
+
 int main(void)
 {
     make_rooms();
@@ -350,7 +372,10 @@ int main(void)
     catch_faults();
     check_sheets(check_lengths);
     check_sheets(check_drops);
-    printf("desk: %zu calls, %zu of may_drop compared, %zu of them true, %zu differences\n", calls,
-        drops_compared, drops_true, differences);
-    return differences != 0 || drops_true == 0 || drops_true == drops_compared;
+    check_sheets(check_labels);
+    printf("desk: %zu calls, %zu of may_drop compared, %zu of them true, ", calls, drops.compared,
+        drops.given);
+    printf("%zu of root_label compared, %zu of them with a label, %zu differences\n",
+        root_labels.compared, root_labels.given, differences);
+    return differences != 0 || one_sided(&drops) || one_sided(&root_labels);
 }

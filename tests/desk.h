@@ -1,4 +1,4 @@
-// A sheet of the test, what the check has to give for it, and what the files of the test share.
+// A sheet of the test, what the calls have to give for it, and what the files of the test share.
 #ifndef DESK_H
 #define DESK_H
 
@@ -11,18 +11,25 @@ struct bytes {
     size_t length;
 };
 
+// What root_label gives of the first variables; of all further numbers it gives 0.
+struct labels {
+    const uint32_t *at;
+    size_t count;
+};
+
 struct outcome {
     uint64_t kind, first, second;
 };
 
 // The outcome, table and replies are those of a call with buffers that are long enough. A refused
-// sheet has no table; replies are there only where the sheet is consistent.
+// sheet has no table; replies and labels are there only where the sheet is consistent.
 struct sheet {
     const char *name;
     struct bytes bytes;
     struct outcome outcome;
     size_t questions;
     struct bytes facts, replies;
+    struct labels labels;
 };
 
 typedef void check_function(const struct sheet *sheet);
@@ -32,17 +39,35 @@ typedef void check_function(const struct sheet *sheet);
 void written_sheets(check_function *check);
 void built_sheets(check_function *check);
 
-// Lends a sheet alone, a null pointer where none is to be lent, and asks may_drop: whether the call
-// comes back, and then the byte of its bool. What it touches or changes is reported.
-bool ask_drop(const struct sheet *sheet, uint32_t question, bool none, uint64_t *found);
+// Lends a sheet alone, a null pointer where none is to be lent, and makes a call about a number:
+// whether it comes back, and then what it gives. What it touches or changes is reported.
+typedef bool ask_function(const struct sheet *sheet, uint32_t number, bool none, uint64_t *found);
+
+// Ask may_drop, of whose bool the byte is given, and root_label.
+ask_function ask_drop, ask_label;
+
+// A call that is asked about many numbers: what it has to give, the calls that were compared, and
+// those that gave another number than 0.
+struct asking {
+    const char *name;
+    ask_function *ask;
+    uint64_t (*expected)(const struct sheet *sheet, uint32_t number);
+    size_t compared, given;
+};
+
+// Asks about so many numbers from 0 on, and about those of the far numbers that are none of these.
+void ask_numbers(struct asking *asking, const struct sheet *sheet, size_t count,
+    const uint32_t *far, size_t far_count);
 
 // Starts the line of a difference.
 void report(const struct sheet *sheet);
 
 // Compares what may_drop says of a sheet's questions, and of numbers that it has no question of.
 void check_drops(const struct sheet *sheet);
+extern struct asking drops;
 
-// The calls of may_drop that were compared, and those of them that gave true.
-extern size_t drops_compared, drops_true;
+// Compares what root_label gives of a sheet's variables, and of numbers that are none.
+void check_labels(const struct sheet *sheet);
+extern struct asking root_labels;
 
 #endif

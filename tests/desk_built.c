@@ -10,6 +10,9 @@ enum { N = 128, ITEMS = 1024 };
 static uint8_t bytes[DOLVREKI_LONGEST_SHEET + 1], facts[N * N], replies[ITEMS];
 static size_t length, replied;
 
+// What root_label gives.
+static uint32_t roots[N];
+
 static void put(size_t byte)
 {
     bytes[length++] = (uint8_t)byte;
@@ -53,22 +56,24 @@ static void expect(uint8_t reply)
     replies[replied++] = reply;
 }
 
-// Starts a sheet in which only F1.1 and F3.1 give facts.
+// Starts a sheet in which only F1.1 and F3.1 give facts, and there are no labels.
 static void start(size_t records, size_t questions)
 {
     length = replied = 0;
     put(7), put(N), put_two(records), put_two(questions);
     memset(facts, 0, sizeof facts);
+    memset(roots, 0, sizeof roots);
     for (size_t i = 0; i < N; i++)
         facts[i * N + i] = 3;
 }
 
-// Hands over what was built; a clash has no replies.
+// Hands over what was built; a clash has no replies and no labels.
 static void finish(check_function *check, const char *name, uint64_t kind, uint64_t first,
     uint64_t second)
 {
     struct sheet sheet = { name, { bytes, length }, { kind, first, second }, replied,
-        { facts, sizeof facts }, { replies, kind == DOLVREKI_CLASH ? 0 : replied } };
+        { facts, sizeof facts }, { replies, kind == DOLVREKI_CLASH ? 0 : replied },
+        { roots, kind == DOLVREKI_CLASH ? 0 : N } };
     check(&sheet);
 }
 
@@ -76,7 +81,7 @@ static void finish_refused(check_function *check, const char *name, uint64_t num
     uint64_t offset)
 {
     struct sheet sheet = { name, { bytes, length }, { DOLVREKI_REFUSED, number, offset }, 0,
-        { facts, 0 }, { replies, 0 } };
+        { facts, 0 }, { replies, 0 }, { roots, 0 } };
     check(&sheet);
 }
 
@@ -128,6 +133,8 @@ static void order_asked(check_function *check)
     start(N, ITEMS);
     put_order();
     put_label(0, 5);
+    for (size_t i = 0; i < N; i++)
+        roots[i] = 1 + 5;
     for (size_t k = 0; k < ITEMS / 4; k++)
         ask_order(37 * k % N, (91 * k + 5) % N, 5 + k % 2);
     finish(check, "order, asked", DOLVREKI_CONSISTENT, N * (N + 1) / 2, N * N);
@@ -160,6 +167,19 @@ static void chains(check_function *check)
     finish(check, "chains", DOLVREKI_CONSISTENT, N + N / 2, 2 * N);
 }
 
+// A label for each of the first chain, the last one's 65535: its like in the second has it too.
+static void chains_labelled(check_function *check)
+{
+    start(N - 1 + N / 2, 0);
+    put_ordered_chains();
+    for (size_t k = 0; k < N / 2; k++) {
+        size_t label = 65535 - (N / 2 - 1) + k;
+        put_label(k, label);
+        roots[k] = roots[N / 2 + k] = 1 + (uint32_t)label;
+    }
+    finish(check, "chains, labels in the first", DOLVREKI_CONSISTENT, N + N / 2, 2 * N);
+}
+
 static void chains_clash(check_function *check)
 {
     start(N + 1, 0);
@@ -176,6 +196,8 @@ static void chains_asked(check_function *check)
     put_chains();
     put_label(N / 2 - 1, 5);
     put_label(N - 1, 6);
+    roots[N / 2 - 1] = 1 + 5;
+    roots[N - 1] = 1 + 6;
     put_ordering(0, N / 2), expect(DOLVREKI_NEVER);
     put_ordering(1, N / 2), expect(DOLVREKI_OPEN);
     put_compatibility(N / 2, 0), expect(DOLVREKI_NEVER);
@@ -188,6 +210,7 @@ static void chains_asked(check_function *check)
 static void put_zeros(void)
 {
     start(ITEMS, ITEMS);
+    roots[0] = 1 + 0;
     for (size_t k = 0; k < ITEMS; k++)
         put_four(0, 0, 0);
     for (size_t k = 0; k < ITEMS; k++)
@@ -211,6 +234,8 @@ static void put_loops(void)
     start(ITEMS, ITEMS);
     for (size_t k = 0; k < ITEMS; k++)
         put_four(k % N, k / N, 257 * (k % N));
+    for (size_t i = 0; i < N; i++)
+        roots[i] = 1 + 257 * (uint32_t)i;
 }
 
 // The longest sheet again. A question i[f]j names i itself; another one, whose label clashes; or
@@ -255,6 +280,7 @@ void built_sheets(check_function *check)
     order_clash(check);
     order_asked(check);
     chains(check);
+    chains_labelled(check);
     chains_clash(check);
     chains_asked(check);
     longest(check);

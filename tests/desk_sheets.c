@@ -1,4 +1,4 @@
-// Sheets written out, with outcomes, tables and replies worked out by hand from rules F1 to F5.
+// Sheets written out, with outcomes, tables, replies and labels worked out by hand from the rules.
 #include "desk.h"
 #include "dolvreki.h"
 
@@ -7,6 +7,9 @@
 
 #define BYTES(...) { (const uint8_t[]) { __VA_ARGS__ }, sizeof (const uint8_t[]) { __VA_ARGS__ } }
 #define NONE { nothing, 0 }
+#define LABELS(...) \
+    { (const uint32_t[]) { __VA_ARGS__ }, sizeof (const uint32_t[]) { __VA_ARGS__ } / 4 }
+#define NO_LABELS { NULL, 0 }
 #define CONSISTENT(orderings, compatibilities) { DOLVREKI_CONSISTENT, orderings, compatibilities }
 #define CLASH(i, j) { DOLVREKI_CLASH, i, j }
 #define REFUSED(number, offset) { DOLVREKI_REFUSED, number, offset }
@@ -16,162 +19,224 @@ static const uint8_t nothing[1];
 
 enum { ALWAYS = DOLVREKI_ALWAYS, NEVER = DOLVREKI_NEVER, OPEN = DOLVREKI_OPEN };
 
-// C1 to C12: bytes, outcome, number of questions, the table row by row, replies.
+// C1 to C12: bytes, outcome, number of questions, the table row by row, replies, and of each
+// variable what root_label gives.
 static const struct sheet cases[] = {
     // one variable
-    { "C1", BYTES(1, 1), CONSISTENT(1, 1), 0, BYTES(3), NONE },
+    { "C1", BYTES(1, 1), CONSISTENT(1, 1), 0, BYTES(3), NONE, NO_LABELS },
     // 2 <= 0, 2[1]3, 5(0), 6(1); 2 <= 0? 2 <= 1? 0 ~ 1?
     { "C2", BYTES(7, 4, 0, 3, 0, 3,  5, 2, 0, 0, 1, 3,  8, 0, 0, 5,  8, 1, 0, 6,
         1, 2, 0,  1, 2, 1,  2, 0, 1), CONSISTENT(5, 6), 3,
-        BYTES(3, 0, 2, 0,  0, 3, 0, 0,  3, 0, 3, 0,  0, 0, 0, 3), BYTES(ALWAYS, OPEN, NEVER) },
+        BYTES(3, 0, 2, 0,  0, 3, 0, 0,  3, 0, 3, 0,  0, 0, 0, 3), BYTES(ALWAYS, OPEN, NEVER),
+        LABELS(1 + 5, 1 + 6, 0, 0) },
     // 5(0), 6(0)
-    { "C3", BYTES(3, 1, 0, 2,  8, 0, 0, 5,  8, 0, 0, 6), CLASH(0, 0), 0, BYTES(3), NONE },
+    { "C3", BYTES(3, 1, 0, 2,  8, 0, 0, 5,  8, 0, 0, 6), CLASH(0, 0), 0, BYTES(3), NONE,
+        NO_LABELS },
     // 5(0), 6(1), 0 ~ 2, 2 ~ 1
     { "C4", BYTES(3, 3, 0, 4,  8, 0, 0, 5,  8, 1, 0, 6,  2, 0, 2,  2, 2, 1), CONSISTENT(3, 7), 0,
-        BYTES(3, 0, 2,  0, 3, 2,  2, 2, 3), NONE },
+        BYTES(3, 0, 2,  0, 3, 2,  2, 2, 3), NONE, LABELS(1 + 5, 1 + 6, 0) },
     // 0 <= 2, 1 <= 2, 5(0), 6(1)
     { "C5", BYTES(3, 3, 0, 4,  1, 0, 2,  1, 1, 2,  8, 0, 0, 5,  8, 1, 0, 6), CLASH(0, 1), 0,
-        BYTES(3, 2, 3,  2, 3, 3,  2, 2, 3), NONE },
+        BYTES(3, 2, 3,  2, 3, 3,  2, 2, 3), NONE, NO_LABELS },
     // 0[1]0, 0 <= 1, 1[1]1
     { "C6", BYTES(3, 2, 0, 3,  4, 0, 0, 1, 0,  1, 0, 1,  4, 1, 0, 1, 1), CONSISTENT(3, 4), 0,
-        BYTES(3, 3,  2, 3), NONE },
+        BYTES(3, 3,  2, 3), NONE, NO_LABELS },
     // 0[1]1, 0[1]2, 5(1), 6(2)
     { "C7", BYTES(3, 3, 0, 4,  4, 0, 0, 1, 1,  4, 0, 0, 1, 2,  8, 1, 0, 5,  8, 2, 0, 6),
-        CLASH(1, 2), 0, BYTES(3, 0, 0,  0, 3, 3,  0, 3, 3), NONE },
+        CLASH(1, 2), 0, BYTES(3, 0, 0,  0, 3, 3,  0, 3, 3), NONE, NO_LABELS },
     // 5(0), 0 <= 1; 5(1)? 6(1)?
     { "C8", BYTES(7, 2, 0, 2, 0, 2,  8, 0, 0, 5,  1, 0, 1,  8, 1, 0, 5,  8, 1, 0, 6),
-        CONSISTENT(3, 4), 2, BYTES(3, 3,  2, 3), BYTES(ALWAYS, NEVER) },
+        CONSISTENT(3, 4), 2, BYTES(3, 3,  2, 3), BYTES(ALWAYS, NEVER), LABELS(1 + 5, 1 + 5) },
     // 0[1]1, 0 <= 2, 2 <= 0; 2[1]1?
     { "C9", BYTES(7, 3, 0, 3, 0, 1,  4, 0, 0, 1, 1,  1, 0, 2,  1, 2, 0,  4, 2, 0, 1, 1),
-        CONSISTENT(5, 5), 1, BYTES(3, 0, 3,  0, 3, 0,  3, 0, 3), BYTES(ALWAYS) },
+        CONSISTENT(5, 5), 1, BYTES(3, 0, 3,  0, 3, 0,  3, 0, 3), BYTES(ALWAYS), NO_LABELS },
     // 0[1]1, 0 <= 2; 2[1]1?
     { "C10", BYTES(7, 3, 0, 2, 0, 1,  4, 0, 0, 1, 1,  1, 0, 2,  4, 2, 0, 1, 1),
-        CONSISTENT(4, 5), 1, BYTES(3, 0, 3,  0, 3, 0,  2, 0, 3), BYTES(OPEN) },
+        CONSISTENT(4, 5), 1, BYTES(3, 0, 3,  0, 3, 0,  2, 0, 3), BYTES(OPEN), NO_LABELS },
     // 0[9]0?, without a record count and with one
-    { "C11", BYTES(5, 1, 0, 1,  4, 0, 0, 9, 0), CONSISTENT(1, 1), 1, BYTES(3), BYTES(OPEN) },
+    { "C11", BYTES(5, 1, 0, 1,  4, 0, 0, 9, 0), CONSISTENT(1, 1), 1, BYTES(3), BYTES(OPEN),
+        NO_LABELS },
     { "C11, records counted", BYTES(7, 1, 0, 0, 0, 1,  4, 0, 0, 9, 0), CONSISTENT(1, 1), 1,
-        BYTES(3), BYTES(OPEN) },
+        BYTES(3), BYTES(OPEN), NO_LABELS },
     // 0[1]0, 1 <= 0; 0[1]1?
     { "C12", BYTES(7, 2, 0, 2, 0, 1,  4, 0, 0, 1, 0,  1, 1, 0,  4, 0, 0, 1, 1), CONSISTENT(3, 4), 1,
-        BYTES(3, 2,  3, 3), BYTES(OPEN) },
+        BYTES(3, 2,  3, 3), BYTES(OPEN), NO_LABELS },
 };
 
 // What facts are derived.
 static const struct sheet derivations[] = {
     // 0 ~ 1
-    { "bare pair", BYTES(3, 2, 0, 1,  2, 0, 1), CONSISTENT(2, 4), 0, BYTES(3, 2,  2, 3), NONE },
+    { "bare pair", BYTES(3, 2, 0, 1,  2, 0, 1), CONSISTENT(2, 4), 0, BYTES(3, 2,  2, 3), NONE,
+        NO_LABELS },
     // 0 <= 1, 1 ~ 2, 3 <= 2: all are compatible
     { "~ below either side", BYTES(3, 4, 0, 3,  1, 0, 1,  2, 1, 2,  1, 3, 2), CONSISTENT(6, 16), 0,
-        BYTES(3, 3, 2, 2,  2, 3, 2, 2,  2, 2, 3, 2,  2, 2, 3, 3), NONE },
+        BYTES(3, 3, 2, 2,  2, 3, 2, 2,  2, 2, 3, 2,  2, 2, 3, 3), NONE, NO_LABELS },
     // 0 ~ 1, 0 <= 2, 5(1), 6(2): 1 ~ 2 does not follow
     { "~ not above", BYTES(3, 3, 0, 4,  2, 0, 1,  1, 0, 2,  8, 1, 0, 5,  8, 2, 0, 6),
-        CONSISTENT(4, 7), 0, BYTES(3, 2, 3,  2, 3, 0,  2, 0, 3), NONE },
+        CONSISTENT(4, 7), 0, BYTES(3, 2, 3,  2, 3, 0,  2, 0, 3), NONE, LABELS(0, 1 + 5, 1 + 6) },
     // 3[1]5, 2[1]4, 1[1]3, 0[1]2, 0 <= 1: 2 <= 3, then 4 <= 5
     { "descent twice", BYTES(3, 6, 0, 5,  4, 3, 0, 1, 5,  4, 2, 0, 1, 4,  4, 1, 0, 1, 3,
         4, 0, 0, 1, 2,  1, 0, 1), CONSISTENT(9, 12), 0,
         BYTES(3, 3, 0, 0, 0, 0,  2, 3, 0, 0, 0, 0,  0, 0, 3, 3, 0, 0,
-            0, 0, 2, 3, 0, 0,  0, 0, 0, 0, 3, 3,  0, 0, 0, 0, 2, 3), NONE },
+            0, 0, 2, 3, 0, 0,  0, 0, 0, 0, 3, 3,  0, 0, 0, 0, 2, 3), NONE, NO_LABELS },
     // 3 <= 0, 2[1]3, 0[1]1, 0 <= 2: the order 1, 3, 0, 2
     { "descent into an order", BYTES(3, 4, 0, 4,  1, 3, 0,  4, 2, 0, 1, 3,  4, 0, 0, 1, 1,
         1, 0, 2), CONSISTENT(10, 16), 0,
-        BYTES(3, 2, 3, 2,  3, 3, 3, 3,  2, 2, 3, 2,  3, 2, 3, 3), NONE },
+        BYTES(3, 2, 3, 2,  3, 3, 3, 3,  2, 2, 3, 2,  3, 2, 3, 3), NONE, NO_LABELS },
 };
 
 // Which clash is told; replies stay as they were.
 static const struct sheet clashes[] = {
     // 5(0), 6(0); 0 <= 0? 5(0)?
     { "clash, asked", BYTES(7, 1, 0, 2, 0, 2,  8, 0, 0, 5,  8, 0, 0, 6,  1, 0, 0,  8, 0, 0, 5),
-        CLASH(0, 0), 2, BYTES(3), NONE },
+        CLASH(0, 0), 2, BYTES(3), NONE, NO_LABELS },
     // 5(2), 6(3), 1[3]3, 0[3]2, 0 ~ 1
     { "clash by F4", BYTES(3, 4, 0, 5,  8, 2, 0, 5,  8, 3, 0, 6,  4, 1, 0, 3, 3,  4, 0, 0, 3, 2,
         2, 0, 1), CLASH(2, 3), 0,
-        BYTES(3, 2, 0, 0,  2, 3, 0, 0,  0, 0, 3, 2,  0, 0, 2, 3), NONE },
+        BYTES(3, 2, 0, 0,  2, 3, 0, 0,  0, 0, 3, 2,  0, 0, 2, 3), NONE, NO_LABELS },
     // 2 ~ 1, 3 ~ 0, 5(1), 6(2), 7(3), 8(0)
     { "least i", BYTES(3, 4, 0, 6,  2, 2, 1,  2, 3, 0,  8, 1, 0, 5,  8, 2, 0, 6,  8, 3, 0, 7,
         8, 0, 0, 8), CLASH(0, 3), 0,
-        BYTES(3, 0, 0, 2,  0, 3, 2, 0,  0, 2, 3, 0,  2, 0, 0, 3), NONE },
+        BYTES(3, 0, 0, 2,  0, 3, 2, 0,  0, 2, 3, 0,  2, 0, 0, 3), NONE, NO_LABELS },
     // 0 ~ 2, 0 ~ 1, 6(2), 6(1), 5(0)
     { "least j", BYTES(3, 3, 0, 5,  2, 0, 2,  2, 0, 1,  8, 2, 0, 6,  8, 1, 0, 6,  8, 0, 0, 5),
-        CLASH(0, 1), 0, BYTES(3, 2, 2,  2, 3, 0,  2, 0, 3), NONE },
+        CLASH(0, 1), 0, BYTES(3, 2, 2,  2, 3, 0,  2, 0, 3), NONE, NO_LABELS },
     // 5(1), 6(1), 0 ~ 2, 5(0), 6(2)
     { "pair before one variable", BYTES(3, 3, 0, 5,  8, 1, 0, 5,  8, 1, 0, 6,  2, 0, 2,
-        8, 0, 0, 5,  8, 2, 0, 6), CLASH(0, 2), 0, BYTES(3, 0, 2,  0, 3, 0,  2, 0, 3), NONE },
+        8, 0, 0, 5,  8, 2, 0, 6), CLASH(0, 2), 0, BYTES(3, 0, 2,  0, 3, 0,  2, 0, 3), NONE,
+        NO_LABELS },
     // 5(0), 5(1), 6(1), and then 0 ~ 1 besides, the labels in either order
     { "two labels", BYTES(3, 2, 0, 3,  8, 0, 0, 5,  8, 1, 0, 5,  8, 1, 0, 6), CLASH(1, 1), 0,
-        BYTES(3, 0,  0, 3), NONE },
+        BYTES(3, 0,  0, 3), NONE, NO_LABELS },
     { "two labels, second differs", BYTES(3, 2, 0, 4,  8, 0, 0, 5,  8, 1, 0, 5,  8, 1, 0, 6,
-        2, 0, 1), CLASH(0, 1), 0, BYTES(3, 2,  2, 3), NONE },
+        2, 0, 1), CLASH(0, 1), 0, BYTES(3, 2,  2, 3), NONE, NO_LABELS },
     { "two labels, first differs", BYTES(3, 2, 0, 4,  8, 0, 0, 5,  8, 1, 0, 6,  8, 1, 0, 5,
-        2, 0, 1), CLASH(0, 1), 0, BYTES(3, 2,  2, 3), NONE },
+        2, 0, 1), CLASH(0, 1), 0, BYTES(3, 2,  2, 3), NONE, NO_LABELS },
 };
 
 // What is replied.
 static const struct sheet questions[] = {
     // 0 <= 1?
     { "bare variables, asked", BYTES(5, 2, 0, 1,  1, 0, 1), CONSISTENT(2, 2), 1, BYTES(3, 0,  0, 3),
-        BYTES(OPEN) },
+        BYTES(OPEN), NO_LABELS },
     // 1 <= 1? 0 ~ 0? 1 ~ 0?
     { "bare variables, asked of one", BYTES(5, 2, 0, 3,  1, 1, 1,  2, 0, 0,  2, 1, 0),
-        CONSISTENT(2, 2), 3, BYTES(3, 0,  0, 3), BYTES(ALWAYS, ALWAYS, OPEN) },
+        CONSISTENT(2, 2), 3, BYTES(3, 0,  0, 3), BYTES(ALWAYS, ALWAYS, OPEN), NO_LABELS },
     // 0 ~ 1; 1 ~ 0? 0 <= 1? 1 <= 1?
     { "bare pair, asked", BYTES(7, 2, 0, 1, 0, 3,  2, 0, 1,  2, 1, 0,  1, 0, 1,  1, 1, 1),
-        CONSISTENT(2, 4), 3, BYTES(3, 2,  2, 3), BYTES(ALWAYS, OPEN, ALWAYS) },
+        CONSISTENT(2, 4), 3, BYTES(3, 2,  2, 3), BYTES(ALWAYS, OPEN, ALWAYS), NO_LABELS },
     // 0 <= 1, 0 <= 2, 5(1), 6(2); 1 ~ 2? 1 <= 2? 9(0)? 0 <= 2? 1 <= 0?
     { "below two labels", BYTES(7, 3, 0, 4, 0, 5,  1, 0, 1,  1, 0, 2,  8, 1, 0, 5,  8, 2, 0, 6,
         2, 1, 2,  1, 1, 2,  8, 0, 0, 9,  1, 0, 2,  1, 1, 0), CONSISTENT(5, 7), 5,
-        BYTES(3, 3, 3,  2, 3, 0,  2, 0, 3), BYTES(NEVER, NEVER, NEVER, ALWAYS, NEVER) },
+        BYTES(3, 3, 3,  2, 3, 0,  2, 0, 3), BYTES(NEVER, NEVER, NEVER, ALWAYS, NEVER),
+        LABELS(0, 1 + 5, 1 + 6) },
     // 5(0)?
-    { "one variable, asked", BYTES(5, 1, 0, 1,  8, 0, 0, 5), CONSISTENT(1, 1), 1, BYTES(3), BYTES(OPEN) },
-    { "two variables", BYTES(1, 2), CONSISTENT(2, 2), 0, BYTES(3, 0,  0, 3), NONE },
+    { "one variable, asked", BYTES(5, 1, 0, 1,  8, 0, 0, 5), CONSISTENT(1, 1), 1, BYTES(3),
+        BYTES(OPEN), NO_LABELS },
+    { "two variables", BYTES(1, 2), CONSISTENT(2, 2), 0, BYTES(3, 0,  0, 3), NONE, NO_LABELS },
     // 0 <= 0, 0 ~ 0, 0[65535]0, 0(0) in one record
     { "one record, all fields", BYTES(3, 1, 0, 1,  15, 0, 0, 0, 255, 255, 0, 0, 0), CONSISTENT(1, 1), 0,
-        BYTES(3), NONE },
+        BYTES(3), NONE, LABELS(1 + 0) },
     // 0 <= 4
     { "last variable", BYTES(3, 5, 0, 1,  1, 0, 4), CONSISTENT(6, 7), 0,
-        BYTES(3, 0, 0, 0, 3,  0, 3, 0, 0, 0,  0, 0, 3, 0, 0,  0, 0, 0, 3, 0,  2, 0, 0, 0, 3), NONE },
+        BYTES(3, 0, 0, 0, 3,  0, 3, 0, 0, 0,  0, 0, 3, 0, 0,  0, 0, 0, 3, 0,  2, 0, 0, 0, 3), NONE,
+        NO_LABELS },
     // 0[1]1, 0[257]2, 5(1), 261(2); 0[257]1? 0[256]1? 0[1]1?
     { "high bytes", BYTES(7, 3, 0, 4, 0, 3,  4, 0, 0, 1, 1,  4, 0, 1, 1, 2,  8, 1, 0, 5,
         8, 2, 1, 5,  4, 0, 1, 1, 1,  4, 0, 1, 0, 1,  4, 0, 0, 1, 1), CONSISTENT(3, 3), 3,
-        BYTES(3, 0, 0,  0, 3, 0,  0, 0, 3), BYTES(NEVER, OPEN, ALWAYS) },
+        BYTES(3, 0, 0,  0, 3, 0,  0, 0, 3), BYTES(NEVER, OPEN, ALWAYS), LABELS(0, 1 + 5, 1 + 261) },
     // 65535(0), 65535(1), 0 ~ 1, 0[65535]0; 65535(0)? 65534(1)? 0[65535]0?
     { "greatest numbers", BYTES(7, 2, 0, 4, 0, 3,  8, 0, 255, 255,  8, 1, 255, 255,  2, 0, 1,
         4, 0, 255, 255, 0,  8, 0, 255, 255,  8, 1, 255, 254,  4, 0, 255, 255, 0),
-        CONSISTENT(2, 4), 3, BYTES(3, 2,  2, 3), BYTES(ALWAYS, NEVER, ALWAYS) },
+        CONSISTENT(2, 4), 3, BYTES(3, 2,  2, 3), BYTES(ALWAYS, NEVER, ALWAYS),
+        LABELS(1 + 65535, 1 + 65535) },
     // 5(0) twice; 5(0)? 6(0)?
     { "one label twice", BYTES(7, 1, 0, 2, 0, 2,  8, 0, 0, 5,  8, 0, 0, 5,  8, 0, 0, 5,
-        8, 0, 0, 6), CONSISTENT(1, 1), 2, BYTES(3), BYTES(ALWAYS, NEVER) },
+        8, 0, 0, 6), CONSISTENT(1, 1), 2, BYTES(3), BYTES(ALWAYS, NEVER), LABELS(1 + 5) },
     // 5(1), 0 <= 1, 1 ~ 2; 5(0)? 6(0)? 5(1)? 5(2)?
     { "label not below", BYTES(7, 3, 0, 3, 0, 4,  8, 1, 0, 5,  1, 0, 1,  2, 1, 2,  8, 0, 0, 5,
         8, 0, 0, 6,  8, 1, 0, 5,  8, 2, 0, 5), CONSISTENT(4, 9), 4,
-        BYTES(3, 3, 2,  2, 3, 2,  2, 2, 3), BYTES(OPEN, NEVER, ALWAYS, OPEN) },
+        BYTES(3, 3, 2,  2, 3, 2,  2, 2, 3), BYTES(OPEN, NEVER, ALWAYS, OPEN), LABELS(0, 1 + 5, 0) },
     // 5(0), 0 <= 1, 2 <= 3, 6(3); 1 ~ 2? 1 <= 2? 2 <= 1? 1 ~ 3? 6(1)? 5(2)? 6(2)?
     { "between two labels", BYTES(7, 4, 0, 4, 0, 7,  8, 0, 0, 5,  1, 0, 1,  1, 2, 3,  8, 3, 0, 6,
         2, 1, 2,  1, 1, 2,  1, 2, 1,  2, 1, 3,  8, 1, 0, 6,  8, 2, 0, 5,  8, 2, 0, 6),
         CONSISTENT(6, 8), 7, BYTES(3, 3, 0, 0,  2, 3, 0, 0,  0, 0, 3, 3,  0, 0, 2, 3),
-        BYTES(OPEN, NEVER, OPEN, NEVER, NEVER, NEVER, OPEN) },
+        BYTES(OPEN, NEVER, OPEN, NEVER, NEVER, NEVER, OPEN), LABELS(1 + 5, 1 + 5, 0, 1 + 6) },
     // 0[1]0, 0 <= 1; 0[1]1?
     { "child not below", BYTES(7, 2, 0, 2, 0, 1,  4, 0, 0, 1, 0,  1, 0, 1,  4, 0, 0, 1, 1),
-        CONSISTENT(3, 4), 1, BYTES(3, 3,  2, 3), BYTES(OPEN) },
+        CONSISTENT(3, 4), 1, BYTES(3, 3,  2, 3), BYTES(OPEN), NO_LABELS },
     // 0[1]1, 2[1]3, 0 <= 4, 4 <= 2, 5 <= 1, 3 <= 5: 1 <= 3 closes a circle; 4[1]5? 4[2]5? 4[1]4?
     { "support by two selections", BYTES(7, 6, 0, 6, 0, 3,  4, 0, 0, 1, 1,  4, 2, 0, 1, 3,
         1, 0, 4,  1, 4, 2,  1, 5, 1,  1, 3, 5,  4, 4, 0, 1, 5,  4, 4, 0, 2, 5,  4, 4, 0, 1, 4),
         CONSISTENT(15, 18), 3,
         BYTES(3, 0, 3, 0, 3, 0,  0, 3, 0, 3, 0, 3,  2, 0, 3, 0, 2, 0,
-            0, 3, 0, 3, 0, 3,  2, 0, 3, 0, 3, 0,  0, 3, 0, 3, 0, 3), BYTES(ALWAYS, OPEN, OPEN) },
+            0, 3, 0, 3, 0, 3,  2, 0, 3, 0, 3, 0,  0, 3, 0, 3, 0, 3), BYTES(ALWAYS, OPEN, OPEN),
+        NO_LABELS },
     // 0[1]1, 2 <= 0; 2[1]1?
     { "support from above only", BYTES(7, 3, 0, 2, 0, 1,  4, 0, 0, 1, 1,  1, 2, 0,  4, 2, 0, 1, 1),
-        CONSISTENT(4, 5), 1, BYTES(3, 0, 2,  0, 3, 0,  3, 0, 3), BYTES(OPEN) },
+        CONSISTENT(4, 5), 1, BYTES(3, 0, 2,  0, 3, 0,  3, 0, 3), BYTES(OPEN), NO_LABELS },
     // 0[1]1, 2[1]3, 5(1), 6(3); 0 ~ 2? 2 <= 0? 0[1]3? 0[2]3? 1 <= 0? 5(1)?
     { "never by descent", BYTES(7, 4, 0, 4, 0, 6,  4, 0, 0, 1, 1,  4, 2, 0, 1, 3,  8, 1, 0, 5,
         8, 3, 0, 6,  2, 0, 2,  1, 2, 0,  4, 0, 0, 1, 3,  4, 0, 0, 2, 3,  1, 1, 0,  8, 1, 0, 5),
         CONSISTENT(4, 4), 6, BYTES(3, 0, 0, 0,  0, 3, 0, 0,  0, 0, 3, 0,  0, 0, 0, 3),
-        BYTES(NEVER, NEVER, NEVER, OPEN, OPEN, ALWAYS) },
+        BYTES(NEVER, NEVER, NEVER, OPEN, OPEN, ALWAYS), LABELS(0, 1 + 5, 0, 1 + 6) },
     // 5(0), 6(2), and pairs of questions that clash only together: 0 <= 1? 1 <= 2? 0 ~ 1? 2 <= 1?
     // 6(1)? 0 ~ 1? 0[1]0? 0[1]2? at last 0 ~ 2?
     { "each on its own", BYTES(7, 3, 0, 2, 0, 9,  8, 0, 0, 5,  8, 2, 0, 6,  1, 0, 1,  1, 1, 2,
         2, 0, 1,  1, 2, 1,  8, 1, 0, 6,  2, 0, 1,  4, 0, 0, 1, 0,  4, 0, 0, 1, 2,  2, 0, 2),
         CONSISTENT(3, 3), 9, BYTES(3, 0, 0,  0, 3, 0,  0, 0, 3),
-        BYTES(OPEN, OPEN, OPEN, OPEN, OPEN, OPEN, OPEN, OPEN, NEVER) },
+        BYTES(OPEN, OPEN, OPEN, OPEN, OPEN, OPEN, OPEN, OPEN, NEVER), LABELS(1 + 5, 0, 1 + 6) },
+};
+
+// Which labels all trees have.
+static const struct sheet labellings[] = {
+    // 5(2), 2 <= 1, 1 <= 0
+    { "label up a chain", BYTES(3, 3, 0, 3,  8, 2, 0, 5,  1, 2, 1,  1, 1, 0), CONSISTENT(6, 9), 0,
+        BYTES(3, 2, 2,  3, 3, 2,  3, 3, 3), NONE, LABELS(1 + 5, 1 + 5, 1 + 5) },
+    // 0[1]2, 1[1]3, 0 <= 1, 5(2): 2 <= 3
+    { "label by F2", BYTES(3, 4, 0, 4,  4, 0, 0, 1, 2,  4, 1, 0, 1, 3,  1, 0, 1,  8, 2, 0, 5),
+        CONSISTENT(6, 8), 0, BYTES(3, 3, 0, 0,  2, 3, 0, 0,  0, 0, 3, 3,  0, 0, 2, 3), NONE,
+        LABELS(0, 0, 1 + 5, 1 + 5) },
+    // 5 <= 6, 2[1]4, 3[1]5, 0[1]2, 1[1]3, 0 <= 1, 5(4): 2 <= 3, then 4 <= 5
+    { "label by F2 twice and up", BYTES(3, 7, 0, 7,  1, 5, 6,  4, 2, 0, 1, 4,  4, 3, 0, 1, 5,
+        4, 0, 0, 1, 2,  4, 1, 0, 1, 3,  1, 0, 1,  8, 4, 0, 5), CONSISTENT(12, 17), 0,
+        BYTES(3, 3, 0, 0, 0, 0, 0,  2, 3, 0, 0, 0, 0, 0,
+            0, 0, 3, 3, 0, 0, 0,  0, 0, 2, 3, 0, 0, 0,
+            0, 0, 0, 0, 3, 3, 3,  0, 0, 0, 0, 2, 3, 3,  0, 0, 0, 0, 2, 2, 3), NONE,
+        LABELS(0, 0, 0, 0, 1 + 5, 1 + 5, 1 + 5) },
+    // 0[1]1, 0[1]2, 5(2): 1 and 2 are below each other
+    { "label of both children", BYTES(3, 3, 0, 3,  4, 0, 0, 1, 1,  4, 0, 0, 1, 2,  8, 2, 0, 5),
+        CONSISTENT(5, 5), 0, BYTES(3, 0, 0,  0, 3, 3,  0, 3, 3), NONE, LABELS(0, 1 + 5, 1 + 5) },
+    // 0 <= 1, 1 <= 2, 2 <= 0, 5(1)
+    { "label round a circle", BYTES(3, 3, 0, 4,  1, 0, 1,  1, 1, 2,  1, 2, 0,  8, 1, 0, 5),
+        CONSISTENT(9, 9), 0, BYTES(3, 3, 3,  3, 3, 3,  3, 3, 3), NONE,
+        LABELS(1 + 5, 1 + 5, 1 + 5) },
+    // 5(0), 5(1), 0 <= 2, 1 <= 2
+    { "label from two below", BYTES(3, 3, 0, 4,  8, 0, 0, 5,  8, 1, 0, 5,  1, 0, 2,  1, 1, 2),
+        CONSISTENT(5, 9), 0, BYTES(3, 2, 3,  2, 3, 3,  2, 2, 3), NONE,
+        LABELS(1 + 5, 1 + 5, 1 + 5) },
+    // 5(0), 6(1), 0 <= 3, 1 <= 2
+    { "each label up its own way", BYTES(3, 4, 0, 4,  8, 0, 0, 5,  8, 1, 0, 6,  1, 0, 3,  1, 1, 2),
+        CONSISTENT(6, 8), 0, BYTES(3, 0, 0, 3,  0, 3, 3, 0,  0, 2, 3, 0,  2, 0, 0, 3), NONE,
+        LABELS(1 + 5, 1 + 6, 1 + 6, 1 + 5) },
+    // 0 ~ 1, 0[1]2, 1[1]3, 5(2), 6(0): only 2 ~ 3 follows
+    { "no label along ~", BYTES(3, 4, 0, 5,  2, 0, 1,  4, 0, 0, 1, 2,  4, 1, 0, 1, 3,  8, 2, 0, 5,
+        8, 0, 0, 6), CONSISTENT(4, 8), 0,
+        BYTES(3, 2, 0, 0,  2, 3, 0, 0,  0, 0, 3, 2,  0, 0, 2, 3), NONE,
+        LABELS(1 + 6, 0, 1 + 5, 0) },
+    // 5(1), 0 <= 1, 0[1]2, 1[1]3, 6(3)
+    { "no label from above", BYTES(3, 4, 0, 5,  8, 1, 0, 5,  1, 0, 1,  4, 0, 0, 1, 2,
+        4, 1, 0, 1, 3,  8, 3, 0, 6), CONSISTENT(6, 8), 0,
+        BYTES(3, 3, 0, 0,  2, 3, 0, 0,  0, 0, 3, 3,  0, 0, 2, 3), NONE,
+        LABELS(0, 1 + 5, 0, 1 + 6) },
+    // 0(0), 0 <= 1, 65535(3), 3 <= 2
+    { "least and greatest label", BYTES(3, 4, 0, 4,  8, 0, 0, 0,  1, 0, 1,  8, 3, 255, 255,
+        1, 3, 2), CONSISTENT(6, 8), 0,
+        BYTES(3, 3, 0, 0,  2, 3, 0, 0,  0, 0, 3, 2,  0, 0, 3, 3), NONE,
+        LABELS(1, 1, 65536, 65536) },
+    // 7(2), 2 <= 1, 5(0), 6(0)
+    { "label beside a clash", BYTES(3, 3, 0, 4,  8, 2, 0, 7,  1, 2, 1,  8, 0, 0, 5,  8, 0, 0, 6),
+        CLASH(0, 0), 0, BYTES(3, 0, 0,  0, 3, 2,  0, 3, 3), NONE, NO_LABELS },
 };
 
 // 0 <= 1, 0 ~ 2, 0[263]3, 521(0), 3 ~ 1, 521(3);
@@ -180,7 +245,7 @@ static const struct sheet mixed = { "mixed",
     BYTES(7, 4, 0, 2, 0, 7,  15, 0, 1, 2, 1, 7, 3, 2, 9,  10, 3, 1, 2, 9,  1, 0, 1,  2, 2, 1,
         4, 0, 1, 7, 3,  8, 1, 2, 8,  8, 1, 2, 9,  4, 1, 1, 7, 3,  4, 0, 1, 7, 2),
     CONSISTENT(5, 12), 7, BYTES(3, 3, 2, 2,  2, 3, 0, 2,  2, 0, 3, 0,  2, 2, 0, 3),
-    BYTES(ALWAYS, OPEN, ALWAYS, NEVER, ALWAYS, OPEN, OPEN) };
+    BYTES(ALWAYS, OPEN, ALWAYS, NEVER, ALWAYS, OPEN, OPEN), LABELS(1 + 521, 1 + 521, 0, 1 + 521) };
 
 // Every kind of field, with the last variable wherever one is due but in the second record:
 // 2 <= 2, 2 ~ 2, 2[1]2, 5(2), 5(0); 2 <= 2? 2 ~ 2? 2[1]2? 5(2)?
@@ -188,14 +253,14 @@ static const struct sheet all_fields = { "all fields",
     BYTES(7, 3, 0, 2, 0, 4,  15, 2, 2, 2, 0, 1, 2, 0, 5,  8, 0, 0, 5,  1, 2, 2,  2, 2, 2,
         4, 2, 0, 1, 2,  8, 2, 0, 5),
     CONSISTENT(3, 3), 4, BYTES(3, 0, 0,  0, 3, 0,  0, 0, 3),
-    BYTES(ALWAYS, ALWAYS, ALWAYS, ALWAYS) };
+    BYTES(ALWAYS, ALWAYS, ALWAYS, ALWAYS), LABELS(1 + 5, 0, 1 + 5) };
 
 #define FAULT(name, number, offset, ...) \
-    { name, BYTES(__VA_ARGS__), REFUSED(number, offset), 0, NONE, NONE }
+    { name, BYTES(__VA_ARGS__), REFUSED(number, offset), 0, NONE, NONE, NO_LABELS }
 
 // Refused sheets: the fault that comes first from the left is told.
 static const struct sheet faulty[] = {
-    { "empty", NONE, REFUSED(DOLVREKI_CUT, 0), 0, NONE, NONE },
+    { "empty", NONE, REFUSED(DOLVREKI_CUT, 0), 0, NONE, NONE, NO_LABELS },
     FAULT("header map alone", DOLVREKI_CUT, 1, 1),
     FAULT("map 0 alone", DOLVREKI_HEADER_MAP, 0, 0),
     FAULT("map 9, no variables", DOLVREKI_HEADER_MAP, 0, 9, 0),
@@ -269,7 +334,8 @@ static void check_list(check_function *check, const struct sheet *sheets, size_t
 static struct sheet refused_sheet(const char *name, const uint8_t *at, size_t length,
     uint64_t number, uint64_t offset)
 {
-    return (struct sheet) { name, { at, length }, REFUSED(number, offset), 0, NONE, NONE };
+    return (struct sheet) { name, { at, length }, REFUSED(number, offset), 0, NONE, NONE,
+        NO_LABELS };
 }
 
 // A sheet cut off at each length that does not reach the given one: it ends too early.
@@ -314,6 +380,7 @@ void written_sheets(check_function *check)
     check_list(check, derivations, COUNT(derivations));
     check_list(check, clashes, COUNT(clashes));
     check_list(check, questions, COUNT(questions));
+    check_list(check, labellings, COUNT(labellings));
     check(&mixed);
     check_cuts(check, mixed.name, mixed.bytes.at, mixed.bytes.length);
     check_list(check, faulty, COUNT(faulty));

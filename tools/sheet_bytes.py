@@ -48,9 +48,8 @@ class Sheet:
         return [statement for record in self.records for statement in record.statements]
 
     def labels(self, variable):
-        """The labellings stated for a variable, each with its record."""
-        return [(s, record) for record in self.records for s in record.statements
-                if s.kind == LABELLING and s.subject == variable]
+        """The labellings stated for a variable."""
+        return [s for s in self.statements() if s.kind == LABELLING and s.subject == variable]
 
 
 def variables_of(statement):

@@ -1,4 +1,4 @@
-"""What follows from a sheet: facts by rules F1 to F4, the clash by F5, support, replies, and the printed outcome."""
+"""What follows from a sheet: facts by F1 to F4, the clash by F5, labels, support, replies, and the printed outcome."""
 
 from sheet_bytes import COMPATIBILITY, LABELLING, ORDERING, SELECTION
 
@@ -102,13 +102,22 @@ def reply(facts, question):
     return "never" if Facts(facts.n, facts.statements + [question]).clash() else "open"
 
 
+def root_labels(facts):
+    """Of each variable of a consistent sheet the label that its root always has, one stated below it; or None."""
+    labels = [None] * facts.n
+    for s in facts.statements:
+        if s.kind == LABELLING:
+            for i in members(facts.le[s.subject]):
+                labels[i] = s.number
+    return labels
+
+
 def outcome(sheet):
     """The lines that the checking program prints of an accepted sheet."""
     facts = Facts(sheet.variables, sheet.statements())
     if facts.clash():
         return "clash %d %d\n" % facts.clash()
     lines = ["consistent %d %d %d" % ((sheet.variables,) + facts.counts())]
-    lines += ["var %d %s" % (i, labels[0] if labels else "-")
-              for i, labels in enumerate(stated_labels(facts.n, facts.statements))]
+    lines += ["var %d %s" % (i, "-" if label is None else label) for i, label in enumerate(root_labels(facts))]
     lines += ["ask %d %s" % (q, reply(facts, item.statements[0])) for q, item in enumerate(sheet.questions)]
     return "".join(line + "\n" for line in lines)

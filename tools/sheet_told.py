@@ -1,6 +1,7 @@
 """What is told of a sheet: a refusal's place among its bytes, and the program's lines with the text beside them."""
 
-from sheet_bytes import FAULTS
+from sheet_bytes import FAULTS, ORDERING, Statement
+from sheet_chain import Source, labelling
 from sheet_text import item_lines, question_text, statement_text
 
 ROW = 16  # bytes in a row
@@ -42,9 +43,9 @@ def refused_text(sheet, data, refusal):
     return "".join(line + "\n" for line in lines + byte_rows(data, refusal.offset))
 
 
-def stated_at(sheet, statement, record):
-    """A statement, and where it is stated."""
-    return "%s at %s %d" % (statement_text(statement), sheet.places, record.place)
+def stated_at(source, statement):
+    """A statement, and where it is stated first."""
+    return "%s at %s %d" % (statement_text(statement), source.sheet.places, source.records[statement].place)
 
 
 def with_remark(text, remark):
@@ -52,38 +53,65 @@ def with_remark(text, remark):
     return "%-18s# %s" % (text, remark) if remark else text
 
 
-def explain_clash(sheet, i, j):
+def explain_clash(source, i, j):
     """The two labels that cannot both be."""
-    for one, first in sheet.labels(i):
-        for two, second in sheet.labels(j):
+    for one in source.sheet.labels(i):
+        for two in source.sheet.labels(j):
             if one.number != two.number:
                 return "%d ~ %d follows, yet %s and %s are stated" % (
-                    i, j, stated_at(sheet, one, first), stated_at(sheet, two, second))
+                    i, j, stated_at(source, one), stated_at(source, two))
     return ""
 
 
-def explain(sheet, line):
+def explain_ordering(source, ordering):
+    """Where an ordering is stated, or else that it follows."""
+    return stated_at(source, ordering) if ordering in source.records else statement_text(ordering) + " follows"
+
+
+def explain_step(source, step):
+    """A step of a chain: where it is stated, or what F2 takes to give it."""
+    if step in source.records:
+        return stated_at(source, step)
+    one, two = source.steps.selections[step.subject, step.other]
+    text = "%s by %s and %s" % (statement_text(step), stated_at(source, one), stated_at(source, two))
+    if one.subject == two.subject:
+        return text
+    return "%s as %s" % (text, explain_ordering(source, Statement(ORDERING, one.subject, None, two.subject)))
+
+
+def explain_label(source, variable, label):
+    """The statement that gives a variable its label, and the steps up to the variable; nothing where none gives it."""
+    chain = source.chain(label, variable)
+    if not chain:
+        return ""
+    stated = labelling(label, chain[0])
+    if len(chain) == 1:
+        return with_remark(stated_at(source, stated), source.records[stated].remark)
+    steps = [explain_step(source, Statement(ORDERING, i, None, j)) for i, j in zip(chain, chain[1:])]
+    return ", ".join([stated_at(source, stated)] + steps)
+
+
+def explain(source, line):
     """What the text has to one line of the program."""
     words = line.split(" ")
     numbers = [int(word) for word in words if word.isdigit()]
     if words[0] == "consistent" and len(numbers) == 3:
         return "%d variables, %d facts <=, %d facts ~" % tuple(numbers)
     if words[0] == "clash" and len(numbers) == 2:
-        return explain_clash(sheet, *numbers)
+        return explain_clash(source, *numbers)
     if words[0] == "var" and len(numbers) == 2:
-        stated = sheet.labels(numbers[0])
-        return with_remark(stated_at(sheet, *stated[0]), stated[0][1].remark) if stated else ""
-    if words[0] == "ask" and numbers and numbers[0] < len(sheet.questions):
-        question = sheet.questions[numbers[0]]
+        return explain_label(source, *numbers)
+    if words[0] == "ask" and numbers and numbers[0] < len(source.sheet.questions):
+        question = source.sheet.questions[numbers[0]]
         return with_remark(question_text(question), question.remark)
     return ""
 
 
 def explained(sheet, printed):
     """The program's lines, each with what explains it in a column of its own."""
-    lines = printed.splitlines()
+    source, lines = Source(sheet), printed.splitlines()
     width = max((len(line) for line in lines), default=0) + 4
-    return "".join(("%-*s%s" % (width, line, explain(sheet, line))).rstrip() + "\n" for line in lines)
+    return "".join(("%-*s%s" % (width, line, explain(source, line))).rstrip() + "\n" for line in lines)
 
 
 def explained_refusal(data, refusal):

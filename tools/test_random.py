@@ -1,4 +1,4 @@
-"""Random sheets for the tool's test: accepted ones, built from the format byte by byte, and damaged ones."""
+"""Random sheets for the tool's test, built from the format byte by byte: accepted, with one label, and damaged."""
 
 
 def some(random, numbers):
@@ -32,6 +32,18 @@ def accepted(random):
     if bits & 4:
         out += len(questions).to_bytes(2, "big")
     return bytes(out) + b"".join(records) + b"".join(questions)
+
+
+def handed(random):
+    """A sheet without questions whose variables have one label or none, so that it goes up far and nothing clashes."""
+    n = random.choice([4, 6, 9])
+    orderings = [bytes([1, random.randrange(n), random.randrange(n)]) for _ in range(random.randrange(n))]
+    selections = [bytes([4, random.randrange(n)]) + some(random, [1, 1, 2]) + bytes([random.randrange(n)])
+                  for _ in range(random.randrange(2 * n))]
+    labels = [bytes([8, random.randrange(n), 0, 5]) for _ in range(random.choice([1, 1, 2]))]
+    records = orderings + selections + labels
+    random.shuffle(records)
+    return bytes([3, n, 0, len(records)]) + b"".join(records)
 
 
 def damaged(random):

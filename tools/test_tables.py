@@ -1,4 +1,4 @@
-"""Tables for the tool's test: texts and their bytes, texts with an error and its place, sheets and their refusals."""
+"""Tables for the tool's test: texts and bytes, text errors and their places, refusals, and what is explained."""
 
 C2 = [7, 4, 0, 3, 0, 3, 5, 2, 0, 0, 1, 3, 8, 0, 0, 5, 8, 1, 0, 6, 1, 2, 0, 1, 2, 1, 2, 0, 1]
 
@@ -136,9 +136,15 @@ CHECKED = {
 var 0 -
 var 1 5             5(1) at line 7    # and that timer runs
 var 2 -
-var 3 -
+var 3 5             5(1) at line 7, 1 <= 3 by 0[1]1 at line 6 and 2[1]3 at line 8 as 0 <= 2 at line 6
 ask 0 always        ? 5(3)            # does the returning timer run?
 ask 1 open          ? 3 <= 1          # has it nothing that the saved timer lacks?
+""",
+    "c8": """consistent 2 3 4    2 variables, 3 facts <=, 4 facts ~
+var 0 5             5(0) at line 2
+var 1 5             5(0) at line 2, 0 <= 1 at line 2
+ask 0 always        ? 5(1)
+ask 1 never         ? 6(1)
 """,
     "c3": """clash 0 0    0 ~ 0 follows, yet 5(0) at line 2 and 6(0) at line 3 are stated
 """,
@@ -149,3 +155,120 @@ bytes   3   1   0   1   4   0   0                                      # offset 
 #                                   ^ here
 """,
 }
+
+# a text, and what is told of its variables
+EXPLAINED = [
+    # one ordering
+    ("0 <= 1 # the remark of an ordering is left out\n5(0) # and so is this beside 1", """
+var 0 5             5(0) at line 2    # and so is this beside 1
+var 1 5             5(0) at line 2, 0 <= 1 at line 1
+"""),
+    # a chain of orderings
+    ("2 <= 1\n5(3)\n1 <= 0\n3 <= 2", """
+var 0 5               5(3) at line 2, 3 <= 2 at line 4, 2 <= 1 at line 1, 1 <= 0 at line 3
+var 1 5               5(3) at line 2, 3 <= 2 at line 4, 2 <= 1 at line 1
+var 2 5               5(3) at line 2, 3 <= 2 at line 4
+var 3 5               5(3) at line 2
+"""),
+    # F2 from a stated ordering
+    ("0[1]2\n1[1]3\n0 <= 1\n5(2)", """
+var 0 -
+var 1 -
+var 2 5             5(2) at line 4
+var 3 5             5(2) at line 4, 2 <= 3 by 0[1]2 at line 1 and 1[1]3 at line 2 as 0 <= 1 at line 3
+"""),
+    # F2 from an ordering that follows by F1.2, and at another feature of one that follows by F2
+    ("0 <= 1\n1 <= 2\n0[1]3\n2[1]4\n3[2]5, 7(3)\n4[2]6\n8(5)", """
+var 0 -
+var 1 -
+var 2 -
+var 3 7               7(3) at line 5
+var 4 7               7(3) at line 5, 3 <= 4 by 0[1]3 at line 3 and 2[1]4 at line 4 as 0 <= 2 follows
+var 5 8               8(5) at line 7
+var 6 8               8(5) at line 7, 5 <= 6 by 3[2]5 at line 5 and 4[2]6 at line 6 as 3 <= 4 follows
+"""),
+    # F2 from one subject, both ways, and a stated ordering behind it
+    ("0[1]2\n0[1]1\n0[2]3\n5(1)\n2 <= 4\n6(3)", """
+var 0 -
+var 1 5              5(1) at line 4
+var 2 5              5(1) at line 4, 1 <= 2 by 0[1]1 at line 2 and 0[1]2 at line 1
+var 3 6              6(3) at line 6
+var 4 5              5(1) at line 4, 1 <= 2 by 0[1]1 at line 2 and 0[1]2 at line 1, 2 <= 4 at line 5
+"""),
+    # one feature only
+    ("0 <= 1, 0[1]2\n1[2]3, 5(1)\n6(2)", """
+var 0 -
+var 1 5             5(1) at line 2
+var 2 6             6(2) at line 3
+var 3 -
+"""),
+    # a circle of orderings
+    ("0 <= 1\n1 <= 2\n2 <= 0, 5(2)\n0 <= 0", """
+var 0 5             5(2) at line 3, 2 <= 0 at line 3
+var 1 5             5(2) at line 3, 2 <= 0 at line 3, 0 <= 1 at line 1
+var 2 5             5(2) at line 3
+"""),
+    # of two variables below the nearest; of two as near the least
+    ("5(0)\n0 <= 1\n1 <= 3\n2 <= 3, 5(2)\n3 <= 4\n5(5), 5 <= 6\n3 <= 6", """
+var 0 5               5(0) at line 1
+var 1 5               5(0) at line 1, 0 <= 1 at line 2
+var 2 5               5(2) at line 4
+var 3 5               5(2) at line 4, 2 <= 3 at line 4
+var 4 5               5(2) at line 4, 2 <= 3 at line 4, 3 <= 4 at line 5
+var 5 5               5(5) at line 6
+var 6 5               5(5) at line 6, 5 <= 6 at line 6
+"""),
+    ("5(2), 2 <= 0\n1 <= 0, 5(1)\n5(3), 3 <= 0", """
+var 0 5              5(1) at line 2, 1 <= 0 at line 2
+var 1 5              5(1) at line 2
+var 2 5              5(2) at line 1
+var 3 5              5(3) at line 3
+"""),
+    ("5(3), 3 <= 2\n3 <= 1\n2 <= 0\n1 <= 0", """
+var 0 5              5(3) at line 1, 3 <= 1 at line 2, 1 <= 0 at line 4
+var 1 5              5(3) at line 1, 3 <= 1 at line 2
+var 2 5              5(3) at line 1, 3 <= 2 at line 1
+var 3 5              5(3) at line 1
+"""),
+    # stated for itself, although also below; what is stated twice is told where it stands first
+    ("5(0)\n0 <= 1\n5(1) # its own\n5(1)\n0 <= 1\n1 <= 2\n1 <= 2", """
+var 0 5             5(0) at line 1
+var 1 5             5(1) at line 3    # its own
+var 2 5             5(1) at line 3, 1 <= 2 at line 6
+"""),
+    # a step does not rest on what comes of it: 0 <= 1 gives 0 <= 1 again by F2
+    ("0 <= 2, 0[1]0, 5(0)\n2 <= 1\n1[1]1", """
+var 0 5             5(0) at line 1
+var 1 5             5(0) at line 1, 0 <= 2 at line 1, 2 <= 1 at line 2
+var 2 5             5(0) at line 1, 0 <= 2 at line 1
+"""),
+    # F2 from a stated ordering is shorter than two stated ones
+    ("0 <= 1, 5(0)\n1 <= 2\n3[1]0, 3 <= 4\n4[1]2", """
+var 0 5              5(0) at line 1
+var 1 5              5(0) at line 1, 0 <= 1 at line 1
+var 2 5              5(0) at line 1, 0 <= 2 by 3[1]0 at line 3 and 4[1]2 at line 4 as 3 <= 4 at line 3
+var 3 -
+var 4 -
+"""),
+    # none along ~ alone, stated or by F4, and none from above
+    ("0 ~ 1, 0[1]2, 5(0)\n1[1]3\n6(2)\n4 <= 0\n? 5(1)", """
+var 0 5              5(0) at line 1
+var 1 -
+var 2 6              6(2) at line 3
+var 3 -
+var 4 -
+"""),
+    # the least and the greatest numbers
+    ("0(0), 0 <= 1\n65535(127), 127 <= 2", "\nvar 0 0                   0(0) at line 1\n"
+     "var 1 0                   0(0) at line 1, 0 <= 1 at line 1\n"
+     "var 2 65535               65535(127) at line 2, 127 <= 2 at line 2\n"
+     + "".join("var %d -\n" % i for i in range(3, 127)) + "var 127 65535             65535(127) at line 2\n"),
+]
+
+# a text, and a line that a wrong program would print: nothing is made up for it
+UNEXPLAINED = [
+    ("5(0), 0 <= 1", "var 1 6"), ("5(0), 0 <= 1", "var 0 6"), ("5(0), 0 <= 1\n6(2)", "var 1 6"),
+    ("5(0), 0 ~ 1", "var 1 5"), ("0 <= 1\n5(1)", "var 0 5"), ("0 ~ 1, 0[1]2\n1[1]3\n5(2)", "var 3 5"),
+    ("0 <= 1, 0[1]2\n1[2]3\n5(2)", "var 3 5"), ("5(0)", "var 1 5"), ("5(0)", "var 128 5"), ("", "var 0 0"),
+    ("5(0)", "var 0 -"), ("5(0), 0 <= 1", "var 1 -"),
+]
