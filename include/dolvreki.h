@@ -60,7 +60,7 @@ bool may_drop(const uint8_t *sheet, size_t sheet_length, uint32_t question);
 // 1 + the label that the root of variable number `variable` has in every assignment of trees that
 // meets the sheet; 0 where no label is common to all of them, where there is no variable of that
 // number, and where the bytes are no sheet or no assignment meets it. Each call is a whole
-// derivation, on buffers of its own: some NN,000 bytes of stack more.
+// derivation, on buffers of its own: some 14,000 bytes of stack more.
 uint64_t root_label(const uint8_t *sheet, size_t sheet_length, uint32_t variable);
 
 // Bits 0 to 7, 8 to 23 and 24 to 39 of an outcome, and no others.

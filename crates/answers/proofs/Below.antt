@@ -1,7 +1,7 @@
 -- The label that a search among the variables finds is the one that is told: it is stated for some k ≤ i, and where it finds
 -- none, none is.
 use Prim.Native.Nat.{ℕ, ◌+◌, ◌<◌, ◌≤◌}
-use lib.ListN.{set, replicate, length-set, length-replicate}
+use lib.ListN.{length, set, length-set, length-replicate}
 use lib.Seq.{get_or-set_same, get_or-set_other}
 use mathlib.Core.Bool.{Bool, true, false}
 use mathlib.Core.List.{List}
@@ -34,7 +34,7 @@ use Rattle.rules.proofs.Roots.{told_is_supported, supported_is_told, root_told, 
 use Rattle.labels.specs.declared.spread.Spread.{Spread}
 use Rattle.labels.specs.Spreads.{spread_at}
 use Rattle.labels.specs.declared.roots.RootLabels.{RootLabels}
-use Rattle.labels.specs.Roots.{label_in, only_label}
+use Rattle.labels.specs.Roots.{Unlabelled, label_in, only_label}
 use Rattle.labels.specs.Labels.{LabelsStand}
 use Rattle.labels.proofs.Kept.{only_label_stated, stated_only_label}
 use Rattle.labels.proofs.Told.{none_filled, none_told}
@@ -92,13 +92,12 @@ module _ {n : ℕ} {t : List ℕ} {spreads : List Spread} where
       }
 
   -- before the first variable, with one more, and behind the last
-  pub filling_start : {at : List (Option Label)} → at ≡ replicate most_variables None → Filling n t spreads 0 at
-  filling_start e =
-      rw e
+  pub filling_start : {r : RootLabels} → Unlabelled r → Filling n t spreads 0 r.at
+  filling_start u =
       record {
-        size = length-replicate {A = Option Label} most_variables None;
+        size = ap length u.is ∙ length-replicate {A = Option Label} most_variables None;
         told = λ i h. absurd (omega arith);
-        others = λ i h. none_filled i;
+        others = λ i h. none_filled u i;
       }
 
   pub filling_on : {i : ℕ} {at : List (Option Label)} {a : Option Label} → Filling n t spreads i at → i < most_variables
@@ -130,12 +129,12 @@ module _ {n : ℕ} {t : List ℕ} {spreads : List Spread} where
         }
 
     pub told_clash : {clash : Option Clash} {pair : Clash} → ClashTold n t spreads clash
-        → verdict_by clash ≡ Verdict.Clash pair → r.at ≡ replicate most_variables None → RootsTold n t spreads r
+        → verdict_by clash ≡ Verdict.Clash pair → Unlabelled r → RootsTold n t spreads r
     unfolding clashes clash_of
-    told_clash {clash = None} first v e = cc
-    told_clash {clash = Some found} first v e =
+    told_clash {clash = None} first v u = cc
+    told_clash {clash = Some found} first v u =
         record {
           told = λ st asked stand names is i.
               let clash : clashes st n ≡ true = ap is_some (sym (rw is at (first.told st stand))) in
-              none_told e i ∙ sym (root_on_clash (sheet n st asked) i clash);
+              none_told u i ∙ sym (root_on_clash (sheet n st asked) i clash);
         }

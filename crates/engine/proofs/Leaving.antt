@@ -1,7 +1,7 @@
 -- The labels told of a sheet, by its table, and by what a check has left.
-use Rattle.std.specs.Prelude.{Result, Ok, Err, None}
+use Rattle.std.specs.Prelude.{Result, Ok, Err}
 use Prim.Native.Nat.{ℕ, ◌*◌, ◌≤◌}
-use lib.ListN.{length, take, drop, replicate, length-append}
+use lib.ListN.{length, take, drop, length-append}
 use lib.Seq.{take_at}
 use mathlib.Core.List.{List}
 use mathlib.Core.Option.{Option}
@@ -24,7 +24,7 @@ use Rattle.rules.specs.Roots.{told_by, root_label}
 use Rattle.rules.proofs.Derived.{derived_bytes, derived_shape}
 use Rattle.rules.proofs.Tables.{table_length}
 use Rattle.labels.specs.declared.roots.RootLabels.{RootLabels}
-use Rattle.labels.specs.Roots.{root_at}
+use Rattle.labels.specs.Roots.{Unlabelled, root_at}
 use Rattle.labels.proofs.Told.{none_told}
 use Rattle.answers.specs.Roots.{RootsTold}
 use Rattle.statements.specs.declared.lists.Lists.{Lists}
@@ -112,7 +112,7 @@ module _ {b : List ℕ} {o : Outcome} {facts : List ℕ} (left : Left b o facts)
 
 -- where the outcome is not consistent none is told
 pub none_where : {o : Outcome} {s : Sheet} {labels : RootLabels} → ((c d : ℕ) → o ≡ Outcome.Consistent c d → ⊥)
-    → labels.at ≡ replicate most_variables None → RootsBy o s labels
+    → Unlabelled labels → RootsBy o s labels
 none_where {o = Outcome.Consistent c d} other e = absurd (other c d refl)
 none_where {o = Outcome.Clash i j} other e = record { are = λ i. none_told e i }
 none_where {o = Outcome.Refused fault at} other e = record { are = λ i. none_told e i }
@@ -164,7 +164,7 @@ module _ {b facts work replies facts' work' replies' : List ℕ} {o : Outcome}
 
 -- of a sheet alone
 module _ (b : List ℕ) {labels : RootLabels} where
-  pub labels_refused : {q : Refusal} → read_sheet b ≡ Err q → labels.at ≡ replicate most_variables None
+  pub labels_refused : {q : Refusal} → read_sheet b ≡ Err q → Unlabelled labels
       → LabelsTold (read_sheet b) (sheet_of b) labels
   unfolding label_told
   labels_refused e empty = labels_told b (λ a read. read) λ i. none_told empty i ∙ rw e refl

@@ -117,7 +117,8 @@ fn check_accepted(
     ensures { Filled (sheet_of sheet.now) work.old replies.old facts.new work.new replies.new result }
 {
     let n = usize::from(accepted.header.variables);
-    let lists = gather(sheet, accepted.header);
+    let mut lists = Lists::empty();
+    gather(sheet, accepted.header, &mut lists);
     let mut groups = Groups::empty();
     let mut queue = Queue::new();
     close(facts, n, &lists, &mut groups, &mut queue);

@@ -14,7 +14,7 @@ use labels::RootLabels;
 use outcomes::Outcome;
 use selections::Groups;
 use sheet::{Header, LARGEST_TABLE, read_header, read_sheet};
-use statements::gather;
+use statements::{Lists, gather};
 use table::{Queue, Table};
 
 // The outcome of a check, and the labels told of variables: none where the sheet is not consistent.
@@ -29,7 +29,8 @@ fn derive(sheet: &[u8], header: Header, facts: &mut [u8])
     requires { Deriving sheet.now header (length facts.old) }
     ensures { Derived sheet.now header facts.new }
 {
-    let lists = gather(sheet, header);
+    let mut lists = Lists::empty();
+    gather(sheet, header, &mut lists);
     let mut groups = Groups::empty();
     let mut queue = Queue::new();
     close(
@@ -46,7 +47,8 @@ fn labels_in(sheet: &[u8], header: Header, facts: &[u8]) -> RootLabels
     requires { Derived sheet.now header facts.now }
     ensures { RootsAre (sheet_of sheet.now) result }
 {
-    let lists = gather(sheet, header);
+    let mut lists = Lists::empty();
+    gather(sheet, header, &mut lists);
     let table = Table {
         cells: facts,
         n: usize::from(header.variables),

@@ -1,6 +1,6 @@
 // The labels that the roots of variables must have.
-ghost use Rattle.std.specs.Prelude.{replicate, get_or, None, ◌≡◌};
-ghost use Rattle.fields.specs.Limits.{most_variables};
+ghost use Rattle.std.specs.Prelude.{get_or, None, ◌≡◌};
+ghost use Rattle.labels.specs.Roots.{Unlabelled};
 
 use fields::{Label, MOST_VARIABLES};
 
@@ -14,7 +14,7 @@ pub struct RootLabels {
 impl RootLabels {
     // None is told.
     pub fn none() -> RootLabels
-        ensures { result.at ≡ replicate most_variables None }
+        ensures { Unlabelled result }
     {
         RootLabels {
             at: [None; MOST_VARIABLES],

@@ -1,6 +1,6 @@
 -- The statements of the records read so far stand in the lists.
 use Prim.Native.Nat.{ℕ, ◌+◌, ◌*◌, ◌-◌, ◌<◌, ◌≤◌}
-use lib.ListN.{length, replicate}
+use lib.ListN.{length}
 use mathlib.Core.List.{List, [], ◌++◌, append-nil, append_assoc}
 use mathlib.Core.Path.{◌≡◌, sym, ap, subst, ◌∙◌}
 use native.Mathlib.Omega.{arith}
@@ -22,9 +22,8 @@ use Rattle.rules.proofs.Lists.{all_split, all_name_more}
 use Rattle.selections.proofs.Stands.{no_selections, no_selections_stand}
 use Rattle.labels.proofs.Kept.{no_labels}
 use Rattle.derivation.proofs.Stands.{no_pairs, no_pairs_stand}
-use Rattle.labels.specs.declared.spread.Spread.{Spread}
 use Rattle.statements.specs.declared.lists.Lists.{Lists}
-use Rattle.statements.specs.Lists.{Stand, Putting, Put, Gathering, pairs_room}
+use Rattle.statements.specs.Lists.{AreEmpty, Stand, Putting, Put, Gathering, pairs_room}
 
 -- with so many records left to read, from a cursor on
 pub record Gathers (s : List ℕ) (n left : ℕ) (cursor : Cursor) (x : Lists) : Type 0 where
@@ -39,11 +38,10 @@ pub record Gathers (s : List ℕ) (n left : ℕ) (cursor : Cursor) (x : Lists) :
   pub selections_room : length x.selections.items + left ≤ most_items
 
 -- before the first record
-pub gathers_start : (s : List ℕ) (h : Header) (x : Lists) → x.pairs.items ≡ [] → x.selections.items ≡ []
-    → x.labels.spreads ≡ replicate most_variables Spread.Nothing → Gathering s h
+pub gathers_start : (s : List ℕ) (h : Header) (x : Lists) → AreEmpty x → Gathering s h
     → Gathers s h.variables h.records h.first x
 unfolding sheet_at
-gathers_start s h x no_pair no_selection no_label g =
+gathers_start s h x empty g =
     let read = accepted_read s (accepted h g.asked) g.accepted in
     let is = accepted_sheet s (accepted h g.asked) g.accepted in
     let few = read.heads.few in
@@ -54,17 +52,17 @@ gathers_start s h x no_pair no_selection no_label g =
       done = [];
       stand =
           record {
-            lawful_pairs = rw no_pair (no_pairs _);
-            pairs_stand = rw no_pair no_pairs_stand;
-            lawful_selections = rw no_selection (no_selections _ few);
-            selections_stand = rw no_selection (no_selections_stand _);
-            labelled = rw no_label (no_labels _ few);
+            lawful_pairs = rw empty.pairs (no_pairs _);
+            pairs_stand = rw empty.pairs no_pairs_stand;
+            lawful_selections = rw empty.selections (no_selections _ few);
+            selections_stand = rw empty.selections (no_selections_stand _);
+            labelled = rw empty.labels (no_labels _ few);
           };
       rest = ap (λ y. y.stated) is;
       end = g.asked;
       readable = read.records_end;
-      pairs_fit = rw no_pair (omega (arith, records));
-      selections_room = rw no_selection (omega (arith, records));
+      pairs_fit = rw empty.pairs (omega (arith, records));
+      selections_room = rw empty.selections (omega (arith, records));
     }
 
 -- one record

@@ -1,5 +1,5 @@
 -- The lists in which statements stand: pairs, selections and labels.
-use Rattle.std.specs.Prelude.{ℕ, ◌+◌, ◌*◌, ◌≤◌, length, List, [], ◌∷◌, ◌++◌, Ok, ◌≡◌}
+use Rattle.std.specs.Prelude.{ℕ, ◌+◌, ◌*◌, ◌≤◌, length, replicate, List, [], ◌∷◌, ◌++◌, Ok, ◌≡◌}
 use Rattle.std.specs.Prelude.{Option, option_map, unwrap_or}
 use Rattle.fields.specs.declared.numbers.Cursor.{Cursor}
 use Rattle.fields.specs.Limits.{most_variables, most_items}
@@ -9,6 +9,7 @@ use Rattle.items.specs.Statements.{AllName}
 use Rattle.sheet.specs.Sheets.{accepted, read_sheet}
 use Rattle.selections.specs.Listed.{selection_of, Selections, Listed}
 use Rattle.selections.specs.Stands.{SelectionsStand}
+use Rattle.labels.specs.declared.spread.Spread.{Spread}
 use Rattle.labels.specs.Labels.{LabelsStand, spreads_with}
 use Rattle.derivation.specs.Stands.{pair_of, Pairs, PairsStand}
 use Rattle.statements.specs.declared.lists.Lists.{Lists}
@@ -27,6 +28,12 @@ with_selection x i f j =
 
 abbrev pub with_label : Lists → ℕ → ℕ → Lists
 with_label x i a = record x { labels = record { spreads = spreads_with x.labels.spreads i a } }
+
+-- nothing stands in them
+pub record AreEmpty (x : Lists) : Type 0 where
+  pub pairs : x.pairs.items ≡ []
+  pub selections : x.selections.items ≡ []
+  pub labels : x.labels.spreads ≡ replicate most_variables Spread.Nothing
 
 -- the statements st are those that stand in lawful lists
 pub record Stand (n : ℕ) (st : List Statement) (x : Lists) : Type 0 where

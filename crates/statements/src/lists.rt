@@ -1,11 +1,10 @@
 // The lists in which statements stand, one statement after another.
-ghost use Rattle.std.specs.Prelude.{◌<◌, length, replicate, [], ◌∷◌, ◌≡◌, option_to_list};
-ghost use Rattle.fields.specs.Limits.{most_variables, most_items};
+ghost use Rattle.std.specs.Prelude.{◌<◌, length, [], ◌∷◌, ◌≡◌, option_to_list};
+ghost use Rattle.fields.specs.Limits.{most_items};
 ghost use Rattle.items.specs.Statements.{statements_of};
 ghost use Rattle.rules.specs.Tables.{kind_cell};
-ghost use Rattle.labels.specs.declared.spread.Spread.{Spread};
 ghost use Rattle.statements.specs.Lists.{pairs_room, with_pair, with_selection, pairs_in, selections_in};
-ghost use Rattle.statements.specs.Lists.{pairs_if, selections_if, Putting, Put};
+ghost use Rattle.statements.specs.Lists.{pairs_if, selections_if, AreEmpty, Putting, Put};
 
 use arrayvec::ArrayVec;
 use derivation::Pair;
@@ -32,10 +31,8 @@ pub struct Lists {
 
 impl Lists {
     // Lists in which nothing stands.
-    pub(crate) fn empty() -> Lists
-        ensures pairs { result.pairs.items ≡ [] }
-        ensures selections { result.selections.items ≡ [] }
-        ensures labels { result.labels.spreads ≡ replicate most_variables Spread.Nothing }
+    pub fn empty() -> Lists
+        ensures { AreEmpty result }
     {
         Lists {
             pairs: ArrayVec::new(),

@@ -6,9 +6,8 @@ use Rattle.statements.proofs.gathering.gather.Goals as goal
 
 pub loop-init : goal.loop-init
 loop-init c =
-    let made = c.empty-lists.ensures in
     let none_read : c.args.header.records - 0 ≡ c.args.header.records = omega arith in
-    rw none_read (gathers_start _ _ c.empty-lists.result made.pairs made.selections made.labels c.requires)
+    rw none_read (gathers_start _ _ _ c.requires.empty c.requires.gathering)
 
 pub put_record-requires : goal.put_record-requires
 put_record-requires c =
