@@ -9,7 +9,6 @@ ghost use Rattle.promise.specs.Roots.{LabelsTold};
 ghost use Rattle.engine.specs.Roots.{Deriving, Roomy, Derived, Left, RootsAre, RootsBy};
 
 use crate::checking::{check, close};
-use answers::root_labels as labels_of;
 use labels::RootLabels;
 use outcomes::Outcome;
 use selections::Groups;
@@ -53,7 +52,7 @@ fn labels_in(sheet: &[u8], header: Header, facts: &[u8]) -> RootLabels
         cells: facts,
         n: usize::from(header.variables),
     };
-    labels_of(&table, &lists.labels)
+    answers::root_labels(&table, &lists.labels)
 }
 
 // The same, of a table that is filled first, in a buffer that has room for it.
