@@ -32,11 +32,11 @@ use Rattle.rules.proofs.Supported.{label_by, label_under}
 use Rattle.rules.proofs.Tables.{fact_row, fact_column}
 use Rattle.rules.proofs.Roots.{told_is_supported, supported_is_told, root_told, root_on_clash}
 use Rattle.labels.specs.declared.spread.Spread.{Spread}
-use Rattle.labels.specs.Spreads.{spread_at}
+use Rattle.labels.specs.Spreads.{spread_at, only_label}
 use Rattle.labels.specs.declared.roots.RootLabels.{RootLabels}
-use Rattle.labels.specs.Roots.{Unlabelled, label_in, only_label}
+use Rattle.labels.specs.Roots.{Unlabelled, label_in}
 use Rattle.labels.specs.Labels.{LabelsStand}
-use Rattle.labels.proofs.Kept.{only_label_stated, stated_only_label}
+use Rattle.labels.proofs.Kept.{only_stated, stated_only}
 use Rattle.labels.proofs.Told.{none_filled, none_told}
 use Rattle.answers.specs.Clashes.{ClashTold}
 use Rattle.answers.specs.Roots.{label_from, BelowTold, Filling, RootsTold}
@@ -63,7 +63,7 @@ module _ {n : ℕ} {t : List ℕ} {spreads : List Spread} where
         → some a.0 ≡ label_below st (facts n t) i
     found_below k a h e =
         let parts = some_chosen (facts n t Kind.Ordered k i) (only_label (spread_at spreads k)) e in
-        let under = label_by (facts n t) (only_label_stated (stand.at k h) parts.1) parts.0 in
+        let under = label_by (facts n t) (only_stated (stand.at k h) parts.1) parts.0 in
         rw is (sym (supported_is_told n st names clear i a.0 (rw is at under)))
 
     -- one that is told would be found
@@ -74,7 +74,7 @@ module _ {n : ℕ} {t : List ℕ} {spreads : List Spread} where
         label_under st (facts n t) i a (told_is_supported st (facts n t) i a e) λ k s p.
         let h = fact_row n t Kind.Ordered k i p in
         let single = (single_labels_lem stand names clear).single k h in
-        let only = stated_only_label (stand.at k h) single s in
+        let only = stated_only (stand.at k h) single s in
         let other : None ≡ Some (label a) = missing k h ∙ sym (chosen _ _ None p (sym only)) in
         cc
 

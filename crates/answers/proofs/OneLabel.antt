@@ -20,7 +20,7 @@ use Rattle.rules.proofs.Some.{below_by, below_one}
 use Rattle.rules.proofs.Lists.{all_with}
 use Rattle.rules.proofs.More.{still, last_stated, stated_of}
 use Rattle.rules.proofs.Derived.{smallest, derived_shape, derived_closed, is_derived}
-use Rattle.rules.proofs.Clashing.{differ_by, differ_of, clashing, not_clashing}
+use Rattle.rules.proofs.Clashing.{differ_by, differ_of, clashing, not_clashing, labels_equal}
 use Rattle.labels.specs.declared.spread.Spread.{Spread}
 use Rattle.labels.specs.Spreads.{spread_at, has_other}
 use Rattle.labels.specs.Labels.{LabelsStand, NoLabelling, other_stated}
@@ -124,14 +124,11 @@ module _ (n : ℕ) (st : List Statement) (names : AllName n st) (i a : ℕ) (h :
 -- i ~ i, so two different labels of i clash
 pub single_labels_lem : {n : ℕ} {st : List Statement} {spreads : List Spread} → LabelsStand n st spreads
     → AllName n st → clashes st n ≡ false → SingleLabels n spreads
-unfolding clashes_at
 single_labels_lem {n} {st} stand names clear =
     record {
       single = λ i h.
           false_from_ne_true _ λ p.
           let two = several_two (stand.at i h) p in
-          both_ways _
-          (not_clashing st n clear i i h h)
-          (both ((derived_closed n st names).reflexive Kind.Compatible i h)
-          (differ_by two.first_stated two.second_stated two.differs));
+          let self = (derived_closed n st names).reflexive Kind.Compatible i h in
+          two.differs (labels_equal st n clear self two.first_stated two.second_stated);
     }

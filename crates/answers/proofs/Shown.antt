@@ -1,10 +1,10 @@
 -- What shows support, sought in the list of selections and among the variables.
 use Prim.Native.Nat.{ℕ, ◌<◌}
 use lib.ListN.{length, get_or}
-use mathlib.Core.Bool.{Bool, true, false, ◌&&◌}
+use mathlib.Core.Bool.{Bool, true, false, ◌&&◌, false≢true}
 use mathlib.Core.List.{List}
 use mathlib.Core.Path.{◌≡◌, refl, sym, ap, ◌∙◌}
-use Rattle.std.specs.Prelude.{Option}
+use Rattle.std.specs.Prelude.{Option, None, Some}
 use Rattle.std.specs.Cmp.Derive.{both_true}
 use Rattle.std.specs.Iterator.{CallableAtEachTurn}
 use Rattle.std.specs.List.{list_any, range_with_len}
@@ -16,6 +16,7 @@ use Rattle.std.proofs.lemmas.List.Folds.{list_any_at}
 use Rattle.fields.specs.declared.numbers.Feature.{Feature}
 use Rattle.fields.specs.declared.numbers.Label.{Label}
 use Rattle.fields.specs.declared.numbers.Variable.{Variable}
+use Rattle.fields.specs.Fields.{label}
 use Rattle.fields.specs.Tests.{same}
 use Rattle.fields.proofs.Choice.{is_same, same_true}
 use Rattle.items.specs.declared.items.Statement.{Statement}
@@ -32,10 +33,10 @@ use Rattle.selections.specs.declared.listed.Selection.{Selection}
 use Rattle.selections.specs.Listed.{selection_of, selection_at, Selections, Listed}
 use Rattle.selections.specs.Stands.{SelectionsStand}
 use Rattle.labels.specs.declared.spread.Spread.{Spread}
-use Rattle.labels.specs.Spreads.{spread_at, is_only}
+use Rattle.labels.specs.Spreads.{spread_at, only_label}
 use Rattle.labels.specs.Labels.{LabelsStand}
 use Rattle.labels.proofs.Kept.{only_stated, stated_only}
-use Rattle.answers.specs.Supports.{SingleLabels, IsSelection, is_under, LabelTold, SupportTold}
+use Rattle.answers.specs.Supports.{SingleLabels, IsSelection, is_under, is_label, LabelTold, SupportTold}
 use Rattle.answers.proofs.Logic.{fails_first, second_decides}
 use Rattle.answers.proofs.Ranges.{passing_at, any_in_range}
 
@@ -94,9 +95,13 @@ module _ {n : ℕ} {st : List Statement} {list : List Selection} (lawful : Selec
       (both_true (ap (λ x. r Kind.Ordered asked.subject.0 x) l.subject ∙ a)
       (ap (λ x. r Kind.Ordered x asked.child.0) l.child ∙ b))))
 
+is_label_true : (x : Option Label) {a : ℕ} → is_label x a ≡ true → x ≡ Some (label a)
+is_label_true None e = absurd (false≢true e)
+is_label_true (Some b) {a} e = ap (λ c. Some (label c)) (same_true b.0 a e)
+
 -- k has the label a alone and is below i
 abbrev pub label_at : Relation → List Spread → ℕ → ℕ → ℕ → Bool
-label_at r spreads i a k = is_only (spread_at spreads k) a && r Kind.Ordered k i
+label_at r spreads i a k = is_label (only_label (spread_at spreads k)) a && r Kind.Ordered k i
 
 pub label_sought : (n : ℕ) (t : List ℕ) {st : List Statement} {spreads : List Spread} → LabelsStand n st spreads
     → SingleLabels n spreads → (i a : ℕ)
@@ -105,11 +110,13 @@ label_sought n t {st} {spreads} stand one i a =
     any_in_range (label_at (facts n t) spreads i a) n
     ∙ same_tests _ _
     (λ p. below_one n (label_at (facts n t) spreads i a) p λ k h q.
-    let parts = and_parts (is_only (spread_at spreads k) a) _ q in
-    label_by (facts n t) (only_stated (stand.at k h) parts.0) parts.1)
+    let only = only_label (spread_at spreads k) in
+    let parts = and_parts (is_label only a) _ q in
+    label_by (facts n t) (only_stated (stand.at k h) (is_label_true only parts.0)) parts.1)
     (λ p. label_under st (facts n t) i a p λ k s o.
     let h = fact_row n t Kind.Ordered k i o in
-    below_by _ n k h (both_true (stated_only (stand.at k h) (one.single k h) s) o))
+    let only = stated_only (stand.at k h) (one.single k h) s in
+    below_by _ n k h (both_true (ap (λ x. is_label x a) only ∙ is_same a a refl) o))
 
 -- the selection that is asked
 abbrev asked : Variable → Feature → Variable → Selection

@@ -15,8 +15,8 @@ use Rattle.rules.specs.Clashes.{clashes}
 use Rattle.rules.specs.Roots.{label_below, root_label}
 use Rattle.labels.specs.declared.roots.RootLabels.{RootLabels}
 use Rattle.labels.specs.declared.spread.Spread.{Spread}
-use Rattle.labels.specs.Spreads.{spread_at}
-use Rattle.labels.specs.Roots.{label_in, only_label, root_at}
+use Rattle.labels.specs.Spreads.{spread_at, only_label}
+use Rattle.labels.specs.Roots.{label_in, root_at}
 use Rattle.labels.specs.Labels.{LabelsStand}
 
 -- the one label of k, where k ≤ i

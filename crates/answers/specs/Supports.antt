@@ -1,5 +1,6 @@
 -- What is told of support, whatever statements have their selections in the list and these spreads of labels.
-use Rattle.std.specs.Prelude.{ℕ, ◌<◌, Bool, false, ◌&&◌, List, ◌≡◌}
+use Rattle.std.specs.Prelude.{ℕ, ◌<◌, Bool, false, ◌&&◌, List, Option, None, Some, ◌≡◌}
+use Rattle.fields.specs.declared.numbers.Label.{Label}
 use Rattle.fields.specs.Tests.{same}
 use Rattle.items.specs.declared.items.Statement.{Statement}
 use Rattle.rules.specs.declared.kinds.Kind.{Kind}
@@ -27,6 +28,11 @@ abbrev pub is_under : Relation → Selection → Selection → Bool
 is_under r upper lower =
     same upper.feature.0 lower.feature.0
     && (r Kind.Ordered upper.subject.0 lower.subject.0 && r Kind.Ordered lower.child.0 upper.child.0)
+
+-- a label that may be there is a
+abbrev pub is_label : Option Label → ℕ → Bool
+is_label None a = false
+is_label (Some b) a = same b.0 a
 
 -- whether some k ≤ i has the label a
 pub record LabelTold (n : ℕ) (t : List ℕ) (spreads : List Spread) (i a : ℕ) (r : Bool) : Type 0 where

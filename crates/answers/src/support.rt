@@ -4,7 +4,7 @@ ghost use Rattle.items.specs.Statements.{Names};
 ghost use Rattle.rules.specs.Tables.{facts};
 ghost use Rattle.rules.specs.declared.kinds.Kind.{Kind};
 ghost use Rattle.selections.specs.Listed.{Selections};
-ghost use Rattle.answers.specs.Supports.{SingleLabels, IsSelection, is_under, LabelTold, SupportTold};
+ghost use Rattle.answers.specs.Supports.{SingleLabels, IsSelection, is_under, is_label, LabelTold, SupportTold};
 
 use crate::cells::has_fact;
 use fields::{Label, Variable};
@@ -33,13 +33,22 @@ fn is_under(table: &Table, upper: &Selection, lower: &Selection) -> bool
         && is_below(table, lower.child, upper.child)
 }
 
+// Whether a label that may be there is a.
+#[tactic(auto, unfolding(fields::specs::Tests::same))]
+fn is_label(found: Option<Label>, a: Label) -> bool
+    ensures { result ≡ is_label found a.0 }
+{
+    matches!(found, Some(b) if b == a)
+}
+
 // Whether some k ≤ i has the label a.
 fn has_label(table: &Table, labels: &Labels, i: usize, a: Label) -> bool
     requires small { i < table.now.n }
     requires single_labels { SingleLabels table.now.n labels.now.spreads }
     ensures { LabelTold table.now.n table.now.cells.now labels.now.spreads i a.0 result }
 {
-    (0..table.n).any(|k| labels.spreads[k].is_only(a) && has_fact(table, Kind::Ordered, k, i))
+    (0..table.n).any(|k| is_label(labels.spreads[k].only(), a)
+        && has_fact(table, Kind::Ordered, k, i))
 }
 
 // Whether the question is supported.

@@ -25,17 +25,18 @@ use Rattle.rules.proofs.Derived.{derived_bytes, derived_shape}
 use Rattle.rules.proofs.Tables.{table_length}
 use Rattle.labels.specs.declared.roots.RootLabels.{RootLabels}
 use Rattle.labels.specs.Roots.{Unlabelled, root_at}
+use Rattle.labels.specs.declared.spread.Spread.{Spread}
+use Rattle.labels.specs.Labels.{LabelsStand}
 use Rattle.labels.proofs.Told.{none_told}
 use Rattle.answers.specs.Roots.{RootsTold}
-use Rattle.statements.specs.declared.lists.Lists.{Lists}
-use Rattle.statements.specs.Lists.{Stand}
+use Rattle.statements.specs.Lists.{Gathering}
 use Rattle.outcomes.specs.declared.outcomes.Outcome.{Outcome}
 use Rattle.outcomes.specs.Closed.{outcome_by}
 use Rattle.outcomes.specs.Judged.{judged}
 use Rattle.outcomes.proofs.Judging.{accepted_fits}
 use Rattle.promise.specs.Checks.{of_refusal, sheet_outcome, outcome_of, over, facts_after, Checked}
 use Rattle.promise.specs.Roots.{label_told, LabelsTold}
-use Rattle.promise.proofs.Labels.{labels_told}
+use Rattle.promise.proofs.Told.{labels_told}
 use Rattle.engine.specs.Roots.{Derived, Left, RootsAre, RootsBy, label_where}
 
 -- a table of what follows has its size
@@ -48,17 +49,17 @@ pub derived_square : {b : List ℕ} {h : Header} {facts : List ℕ} → Derived 
 derived_square {b} {h} d =
     rw (d.is, ← accepted_variables b (accepted h d.asked) d.read) (derived_shape (sheet_of b).n (sheet_of b).stated).size
 
--- by a table of what follows from the statements in the lists
-pub roots_are : {b : List ℕ} {h : Header} {facts : List ℕ} {lists : Lists} {labels : RootLabels}
-    → Derived b h facts → Stand h.variables (sheet_of b).stated lists
-    → RootsTold h.variables facts lists.labels.spreads labels → RootsAre (sheet_of b) labels
-roots_are {b} {h} {labels = labels} d l told =
+-- by a table of what follows, and the labels that are stated
+pub roots_are : {b : List ℕ} {h : Header} {facts : List ℕ} {spreads : List Spread} {labels : RootLabels}
+    → Derived b h facts → LabelsStand h.variables (sheet_of b).stated spreads
+    → RootsTold h.variables facts spreads labels → RootsAre (sheet_of b) labels
+roots_are {b} {h} {labels = labels} d stand told =
     let x = accepted h d.asked in
     let n_is : (sheet_of b).n ≡ h.variables = accepted_variables b x d.read in
     record {
       are = λ i.
           subst (λ n. root_at labels i ≡ root_label (sheet n (sheet_of b).stated (sheet_of b).asked) i) (sym n_is)
-          (told.told (sheet_of b).stated (sheet_of b).asked l.labelled (accepted_stated b x d.read) (rw (← n_is) d.is) i);
+          (told.told (sheet_of b).stated (sheet_of b).asked stand (accepted_stated b x d.read) (rw (← n_is) d.is) i);
     }
 
 -- by what a check leaves of a sheet that it tells to be consistent
@@ -109,6 +110,10 @@ module _ {b : List ℕ} {o : Outcome} {facts : List ℕ} (left : Left b o facts)
                 rw facts_are (take_at bytes _ size long)
                 ∙ derived_bytes (sheet_of b).n (sheet_of b).stated;
           }
+
+    pub gathering_left : {h : Header} → header_of b ≡ Ok h → Gathering b h
+    gathering_left {h} header =
+        let d = derived_left {h = h} header {size = table_size h} refl in record { asked = d.asked; accepted = d.read }
 
 -- where the outcome is not consistent none is told
 pub none_where : {o : Outcome} {s : Sheet} {labels : RootLabels} → ((c d : ℕ) → o ≡ Outcome.Consistent c d → ⊥)

@@ -1,6 +1,8 @@
 // The labels that the roots of variables must have: of a sheet alone, and beside its check.
 ghost use Rattle.std.specs.Prelude.{length, ◌≡◌};
 ghost use Rattle.sheet.specs.Sheets.{read_sheet, sheet_of};
+ghost use Rattle.labels.specs.Labels.{LabelsStand};
+ghost use Rattle.statements.specs.Lists.{Stand, AreEmpty};
 ghost use Rattle.outcomes.specs.Judged.{judged};
 ghost use Rattle.outcomes.specs.Outcomes.{packed};
 ghost use Rattle.promise.specs.Checks.{Checked};
@@ -9,7 +11,7 @@ ghost use Rattle.promise.specs.Roots.{LabelsTold};
 ghost use Rattle.engine.specs.Roots.{Deriving, Roomy, Derived, Left, RootsAre, RootsBy};
 
 use crate::checking::{check, close};
-use labels::RootLabels;
+use labels::{Labels, RootLabels};
 use outcomes::Outcome;
 use selections::Groups;
 use sheet::{Header, LARGEST_TABLE, read_header, read_sheet};
@@ -23,46 +25,47 @@ pub struct Labelled {
     pub labels: RootLabels,
 }
 
-// Fills a table of exactly the size in use with the facts that follow from an accepted sheet.
-fn derive(sheet: &[u8], header: Header, facts: &mut [u8])
-    requires { Deriving sheet.now header (length facts.old) }
-    ensures { Derived sheet.now header facts.new }
+// Puts what an accepted sheet states into empty lists, and fills a table of exactly the size in use with what follows.
+fn derive(sheet: &[u8], header: Header, lists: &mut Lists, facts: &mut [u8])
+    requires sized { Deriving sheet.now header (length facts.old) }
+    requires empty { AreEmpty lists.old }
+    ensures stand { Stand header.variables (sheet_of sheet.now).stated lists.new }
+    ensures derived { Derived sheet.now header facts.new }
 {
-    let mut lists = Lists::empty();
-    gather(sheet, header, &mut lists);
+    gather(sheet, header, lists);
     let mut groups = Groups::empty();
     let mut queue = Queue::new();
     close(
         facts,
         usize::from(header.variables),
-        &lists,
+        lists,
         &mut groups,
         &mut queue,
     );
 }
 
-// The labels told of an accepted sheet, by a table that holds its facts.
-fn labels_in(sheet: &[u8], header: Header, facts: &[u8]) -> RootLabels
-    requires { Derived sheet.now header facts.now }
+// The labels told of an accepted sheet, by the labels that it states and a table that holds its facts.
+fn labels_in(sheet: &[u8], header: Header, labels: &Labels, facts: &[u8]) -> RootLabels
+    requires stand { LabelsStand header.variables (sheet_of sheet.now).stated labels.now.spreads }
+    requires derived { Derived sheet.now header facts.now }
     ensures { RootsAre (sheet_of sheet.now) result }
 {
-    let mut lists = Lists::empty();
-    gather(sheet, header, &mut lists);
     let table = Table {
         cells: facts,
         n: usize::from(header.variables),
     };
-    answers::root_labels(&table, &lists.labels)
+    answers::root_labels(&table, labels)
 }
 
-// The same, of a table that is filled first, in a buffer that has room for it.
+// The same of a table that is filled first, in a buffer that has room for it.
 fn labels_derived(sheet: &[u8], header: Header, facts: &mut [u8]) -> RootLabels
     requires { Roomy sheet.now header (length facts.old) }
     ensures { RootsAre (sheet_of sheet.now) result }
 {
     let size = header.table_size();
-    derive(sheet, header, &mut facts[..size]);
-    labels_in(sheet, header, &facts[..size])
+    let mut lists = Lists::empty();
+    derive(sheet, header, &mut lists, &mut facts[..size]);
+    labels_in(sheet, header, &lists.labels, &facts[..size])
 }
 
 // The labels told of a sheet, by what its check has left.
@@ -76,7 +79,9 @@ fn labels_left(sheet: &[u8], outcome: Outcome, facts: &[u8]) -> RootLabels
     let Ok(header) = read_header(sheet) else {
         return RootLabels::none();
     };
-    labels_in(sheet, header, &facts[..header.table_size()])
+    let mut lists = Lists::empty();
+    gather(sheet, header, &mut lists);
+    labels_in(sheet, header, &lists.labels, &facts[..header.table_size()])
 }
 
 // Checks a sheet as `check` does, and tells the labels of its variables.

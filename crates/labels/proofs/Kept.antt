@@ -26,8 +26,7 @@ use Rattle.rules.proofs.Some.{by_labelling, one_labelling}
 use Rattle.rules.proofs.More.{still, last_stated, stated_of}
 use Rattle.rules.proofs.Clashing.{differ_by, differ_of}
 use Rattle.labels.specs.declared.spread.Spread.{Spread}
-use Rattle.labels.specs.Spreads.{has_any, is_several, is_only, has_other, differ, with_labels, spread_at}
-use Rattle.labels.specs.Roots.{only_label}
+use Rattle.labels.specs.Spreads.{has_any, is_several, only_label, has_other, differ, with_labels, spread_at}
 use Rattle.labels.specs.Labels.{TwoLabels, LabelsAt, LabelsStand, spreads_with, NoLabelling, other_stated}
 use Rattle.labels.specs.Labels.{OtherTold, DifferTold}
 
@@ -62,32 +61,19 @@ other_told {st} {j} (LabelsAt.several two) a =
     ⊎_elim (λ p. sym (other_by two.second_stated λ q. two.differs (sym p ∙ q)))
     (λ p. sym (other_by two.first_stated p)) (cases_eq a two.first)
 
--- and whether a is, where it is the only one
-pub only_stated : {st : List Statement} {j a : ℕ} {s : Spread} → LabelsAt st j s → is_only s a ≡ true
-    → Stated st (labelling j a)
-only_stated (LabelsAt.none none) e = absurd (false≢true e)
-only_stated {st} {j} (LabelsAt.one one) e = subst (λ b. Stated st (labelling j b)) (same_true _ _ e) one.stated
-only_stated (LabelsAt.several two) e = absurd (false≢true e)
+-- and which is, where there is one
+pub only_stated : {st : List Statement} {j : ℕ} {s : Spread} {a : Label} → LabelsAt st j s
+    → only_label s ≡ Some a → Stated st (labelling j a.0)
+only_stated (LabelsAt.none none) e = cc
+only_stated {st} {j} {a = a} (LabelsAt.one {a = b} one) e =
+    let same : b ≡ a = cc in subst (λ c. Stated st (labelling j c.0)) same one.stated
+only_stated (LabelsAt.several two) e = cc
 
 pub stated_only : {st : List Statement} {j a : ℕ} {s : Spread} → LabelsAt st j s → is_several s ≡ false
-    → Stated st (labelling j a) → is_only s a ≡ true
-stated_only (LabelsAt.none none) few s = absurd (none _ s)
-stated_only (LabelsAt.one one) few s = is_same _ _ (sym (one.only _ s))
-stated_only (LabelsAt.several two) few s = absurd (true≢false few)
-
--- and which is, where there is one
-pub only_label_stated : {st : List Statement} {j : ℕ} {s : Spread} {a : Label} → LabelsAt st j s
-    → only_label s ≡ Some a → Stated st (labelling j a.0)
-only_label_stated (LabelsAt.none none) e = cc
-only_label_stated {st} {j} {a = a} (LabelsAt.one {a = b} one) e =
-    let same : b ≡ a = cc in subst (λ c. Stated st (labelling j c.0)) same one.stated
-only_label_stated (LabelsAt.several two) e = cc
-
-pub stated_only_label : {st : List Statement} {j a : ℕ} {s : Spread} → LabelsAt st j s → is_several s ≡ false
     → Stated st (labelling j a) → only_label s ≡ Some (label a)
-stated_only_label (LabelsAt.none none) few s = absurd (none _ s)
-stated_only_label {a = a} (LabelsAt.one {a = b} one) few s = ap (λ x. Some (label x)) (sym (one.only a s))
-stated_only_label (LabelsAt.several two) few s = absurd (true≢false few)
+stated_only (LabelsAt.none none) few s = absurd (none _ s)
+stated_only {a = a} (LabelsAt.one {a = b} one) few s = ap (λ x. Some (label x)) (sym (one.only a s))
+stated_only (LabelsAt.several two) few s = absurd (true≢false few)
 
 -- where there are several, two differ
 pub several_two : {st : List Statement} {i : ℕ} {s : Spread} → LabelsAt st i s → is_several s ≡ true → TwoLabels st i

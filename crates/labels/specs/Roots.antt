@@ -4,7 +4,6 @@ use Rattle.std.proofs.Math.Option.{Option as Maybe, none, some}
 use Rattle.fields.specs.declared.numbers.Label.{Label}
 use Rattle.fields.specs.Limits.{most_variables}
 use Rattle.labels.specs.declared.roots.RootLabels.{RootLabels}
-use Rattle.labels.specs.declared.spread.Spread.{Spread}
 
 -- none is told of any
 pub record Unlabelled (labels : RootLabels) : Type 0 where
@@ -18,9 +17,3 @@ label_in (Some a) = some a.0
 -- that of i
 abbrev pub root_at : RootLabels → ℕ → Maybe ℕ
 root_at labels i = label_in (get_or labels.at i None)
-
--- the one label that is stated
-abbrev pub only_label : Spread → Option Label
-only_label Spread.Nothing = None
-only_label (Spread.One a) = Some a
-only_label Spread.Several = None

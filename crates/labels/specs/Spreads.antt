@@ -1,5 +1,6 @@
 -- How many different labels are stated: none, one, or several.
-use Rattle.std.specs.Prelude.{ℕ, zero, suc, get_or, Bool, true, false, not, List}
+use Rattle.std.specs.Prelude.{ℕ, zero, suc, get_or, Bool, true, false, not, List, Option, None, Some}
+use Rattle.fields.specs.declared.numbers.Label.{Label}
 use Rattle.fields.specs.Tests.{same, pick}
 use Rattle.items.specs.declared.items.Statement.{Statement}
 use Rattle.rules.specs.Stated.{if_labelling}
@@ -17,11 +18,11 @@ is_several Spread.Nothing = false
 is_several (Spread.One b) = false
 is_several Spread.Several = true
 
--- a is the one label
-abbrev pub is_only : Spread → ℕ → Bool
-is_only Spread.Nothing a = false
-is_only (Spread.One b) a = same b.0 a
-is_only Spread.Several a = false
+-- the one label, if there is just one
+abbrev pub only_label : Spread → Option Label
+only_label Spread.Nothing = None
+only_label (Spread.One a) = Some a
+only_label Spread.Several = None
 
 -- there is a label other than a
 abbrev pub has_other : Spread → ℕ → Bool

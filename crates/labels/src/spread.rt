@@ -1,7 +1,6 @@
 // How many different labels are stated: where there are fewer than two, nothing can clash.
 ghost use Rattle.std.specs.Prelude.{◌≡◌};
-ghost use Rattle.labels.specs.Roots.{only_label};
-ghost use Rattle.labels.specs.Spreads.{has_any, is_several, is_only, has_other, differ, with_labels, can_clash};
+ghost use Rattle.labels.specs.Spreads.{has_any, is_several, only_label, has_other, differ, with_labels, can_clash};
 
 use fields::Label;
 use items::Statement;
@@ -28,14 +27,6 @@ impl Spread {
         ensures { result ≡ is_several self }
     {
         matches!(self, Spread::Several)
-    }
-
-    // Whether a is the one label.
-    #[tactic(auto, unfolding(fields::specs::Tests::same))]
-    pub fn is_only(self, a: Label) -> bool
-        ensures { result ≡ is_only self a.0 }
-    {
-        matches!(self, Spread::One(b) if b == a)
     }
 
     // The one label, if there is just one.

@@ -26,7 +26,7 @@ use Rattle.trees.specs.Demand.{Met, RootIs}
 use Rattle.trees.proofs.Demands.{sheet_3}
 use Rattle.promise.specs.Roots.{LabelMeans}
 use Rattle.promise.proofs.Clashes.{between}
-use Rattle.promise.proofs.Labels.{accepted_means}
+use Rattle.promise.proofs.Told.{accepted_means}
 use Rattle.promise.proofs.Theorems.{label_exactly, dash_exactly}
 use Rattle.lines.specs.Lines.{line, label_word, var_line, printed}
 use Rattle.lines.proofs.Numbering.{lines_count, at_variable}

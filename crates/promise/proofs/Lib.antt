@@ -1,7 +1,7 @@
 -- The sentences that users rest on, each a theorem, and what they are shown by.
 pub mod Shown
 pub mod Clashes
-pub mod Labels
+pub mod Told
 pub mod Theorems
 pub mod Buffers
 pub mod Numbers

@@ -108,7 +108,7 @@ module _ {b facts work replies facts' work' replies' : List ℕ} {r : ℕ}
 module _ {read : Result Accepted Refusal} {s : Sheet} {i : ℕ} {told : Option ℕ} (means : LabelMeans read s i told) where
   module _ (accepted : IsAccepted read) (met : Met (Counts s)) (variable : i < s.n) where
     must : (a : ℕ) → RootIs (Counts s) i a → MustHave read s i a
-    must a every = record { accepted = accepted; variable = variable; met = met; everywhere = every }
+    must a every = record { accepted = accepted; variable = omega (arith, variable); met = met; everywhere = every }
 
     -- on a consistent sheet a label is told exactly when every assignment meeting the sheet has it there,
     pub label_exactly : (a : ℕ) → (told ≡ some a) ↔ RootIs (Counts s) i a

@@ -16,12 +16,14 @@ use Rattle.fields.proofs.Choice.{is_same, not_same, same_true, same_false}
 use Rattle.items.specs.declared.items.Statement.{Statement}
 use Rattle.rules.specs.declared.clashes.Clash.{Clash}
 use Rattle.rules.specs.Stated.{labelling, Stated}
-use Rattle.rules.specs.Facts.{Relation}
-use Rattle.rules.specs.Derived.{facts_of}
+use Rattle.rules.specs.declared.kinds.Kind.{Kind}
+use Rattle.rules.specs.Facts.{Relation, Holds}
+use Rattle.rules.specs.Derived.{derived, facts_of}
 use Rattle.rules.specs.Clashes.{labels_differ, clashes_at, clash_between, clash_in_row, clash_in_rows, clash_of}
 use Rattle.rules.specs.Clashes.{clashes}
 use Rattle.rules.specs.Demand.{LeastClash, NoClash}
 use Rattle.rules.proofs.Logic.{both, first_of_and, second_of_and, decided}
+use Rattle.rules.proofs.Tables.{fact_row, fact_column}
 use Rattle.rules.proofs.Some.{by_labelling, one_labelling}
 
 -- two labels that differ, stated of i and of j
@@ -146,6 +148,15 @@ module _ (st : List Statement) (n : ℕ) where
   pub not_clashing : clashes st n ≡ false → NoClash st (facts_of st n) n
   unfolding clashes
   not_clashing e = clash_nowhere.0 (not_clash (clash_of st n) e)
+
+  -- so compatible variables have equal labels
+  pub labels_equal : clashes st n ≡ false → {i j a b : ℕ} → Holds (facts_of st n) Kind.Compatible i j
+      → Stated st (labelling i a) → Stated st (labelling j b) → a ≡ b
+  unfolding clashes_at
+  labels_equal e {i} {j} {a} {b} p s s' =
+      let t = derived st n in
+      let clear = not_clashing e i j (fact_row n t Kind.Compatible i j p) (fact_column n t Kind.Compatible i j p) in
+      decided (same a b) (same_true a b) λ d. absurd (both_ways _ clear (both p (differ_by s s' (same_false a b d))))
 
   pub clashing : {C : Type 0} → clashes st n ≡ true → ((i j : ℕ) → LeastClash st (facts_of st n) n i j → C) → C
   unfolding clashes

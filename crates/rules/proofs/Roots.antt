@@ -1,6 +1,6 @@
 -- The label told of a variable is the one that is supported: where nothing clashes, what is below a variable has one label
 -- at most.
-use Prim.Native.Nat.{ℕ, ◌<◌, ◌≤◌}
+use Prim.Native.Nat.{ℕ, ◌≤◌}
 use mathlib.Core.Bool.{true, false, true≢false, false≢true}
 use mathlib.Core.List.{List}
 use mathlib.Core.Logic.{◌↔◌}
@@ -8,27 +8,24 @@ use mathlib.Core.Option.{Option, none, some, none-ne-some}
 use mathlib.Core.Path.{◌≡◌, refl, sym, ap, ◌∙◌}
 use native.Mathlib.Omega.{arith}
 use Rattle.std.specs.Prelude.{Option as Found, None, Some, is_some}
-use Rattle.std.proofs.lemmas.Bool.{both_ways}
-use Rattle.fields.specs.Tests.{same}
-use Rattle.fields.proofs.Choice.{same_true, same_false}
 use Rattle.items.specs.declared.items.Statement.{Statement}
 use Rattle.items.specs.Statements.{AllName}
 use Rattle.sheet.specs.Sheets.{Sheet}
 use Rattle.rules.specs.declared.clashes.Clash.{Clash}
 use Rattle.rules.specs.Stated.{labelling, Stated}
 use Rattle.rules.specs.declared.kinds.Kind.{Kind}
-use Rattle.rules.specs.Facts.{Relation, Holds}
+use Rattle.rules.specs.Facts.{Relation, Holds, Closed}
 use Rattle.rules.specs.Derived.{derived, facts_of}
-use Rattle.rules.specs.Clashes.{clashes_at, clash_of, clashes}
+use Rattle.rules.specs.Clashes.{clash_of, clashes}
 use Rattle.rules.specs.Verdicts.{verdict_by, verdict_of}
 use Rattle.rules.specs.Support.{under_label}
 use Rattle.rules.specs.Roots.{label_below, told_by, root_label}
-use Rattle.rules.proofs.Logic.{both, decided}
+use Rattle.rules.proofs.Logic.{decided}
 use Rattle.rules.proofs.Labels.{first_from, first_found}
 use Rattle.rules.proofs.Supported.{label_by, label_under}
-use Rattle.rules.proofs.Tables.{fact_row, fact_column}
+use Rattle.rules.proofs.Tables.{fact_column}
 use Rattle.rules.proofs.Derived.{derived_closed}
-use Rattle.rules.proofs.Clashing.{differ_by, not_clashing}
+use Rattle.rules.proofs.Clashing.{labels_equal}
 
 -- what is told is supported
 pub told_is_supported : (st : List Statement) (r : Relation) (i a : ℕ) → label_below st r i ≡ some a
@@ -36,27 +33,20 @@ pub told_is_supported : (st : List Statement) (r : Relation) (i a : ℕ) → lab
 unfolding label_below
 told_is_supported st r i a e = first_from (λ k. r Kind.Ordered k i) st e λ k s p. label_by r s p
 
-module _ (n : ℕ) (st : List Statement) (names : AllName n st) (clear : clashes st n ≡ false) where
-  -- what lies below one variable is compatible
-  compatible_under : (i k m : ℕ) → Holds (facts_of st n) Kind.Ordered k i → Holds (facts_of st n) Kind.Ordered m i
-      → Holds (facts_of st n) Kind.Compatible k m
-  compatible_under i k m p q =
-      let c = derived_closed n st names in
-      let self = c.reflexive Kind.Compatible i (fact_column n (derived st n) Kind.Ordered k i p) in
-      let turned = c.symmetric k i (c.through Kind.Compatible k i i p self) in
-      c.symmetric m k (c.through Kind.Compatible m i k q turned)
+-- what lies below compatible variables is compatible: F3.2 on both sides
+pub compatible_under : {n : ℕ} {st : List Statement} {R : Kind → ℕ → ℕ → Type 0} → Closed n st R → {i j k l : ℕ}
+    → R Kind.Ordered k i → R Kind.Compatible i j → R Kind.Ordered l j → R Kind.Compatible k l
+compatible_under c {i} {j} {k} {l} p h q =
+    c.symmetric l k (c.through Kind.Compatible l j k q (c.symmetric k j (c.through Kind.Compatible k i j p h)))
 
-  -- so it has one label
+module _ (n : ℕ) (st : List Statement) (names : AllName n st) (clear : clashes st n ≡ false) where
+  -- what lies below a variable has one label
   one_below : (i k m a b : ℕ) → Stated st (labelling k a) → Stated st (labelling m b)
       → Holds (facts_of st n) Kind.Ordered k i → Holds (facts_of st n) Kind.Ordered m i → a ≡ b
-  unfolding clashes_at
   one_below i k m a b s s' p q =
-      decided (same a b) (same_true a b) λ e.
-      absurd (both_ways _ (not_clashing st n clear k m (row k p) (row m q))
-      (both (compatible_under i k m p q) (differ_by s s' (same_false a b e))))
-    where
-      row : (x : ℕ) → Holds (facts_of st n) Kind.Ordered x i → x < n
-      row x = fact_row n (derived st n) Kind.Ordered x i
+      let c = derived_closed n st names in
+      let self = c.reflexive Kind.Compatible i (fact_column n (derived st n) Kind.Ordered k i p) in
+      labels_equal st n clear (compatible_under c p self q) s s'
 
   -- what is supported is told
   pub supported_is_told : (i a : ℕ) → under_label st (facts_of st n) i a ≡ true

@@ -2,9 +2,8 @@
 use Prim.Native.Nat.{ℕ, ◌<◌}
 use mathlib.Core.Bool.{true, false}
 use mathlib.Core.List.{List}
-use mathlib.Core.Logic.{inl, inr, ⊎_elim}
+use mathlib.Core.Logic.{inl, inr}
 use mathlib.Core.Path.{◌≡◌, refl, sym, subst}
-use Rattle.std.proofs.lemmas.Bool.{both_ways, cases_eq}
 use Rattle.fields.specs.Tests.{same}
 use Rattle.fields.proofs.Choice.{is_same, same_true}
 use Rattle.items.specs.declared.items.Statement.{Statement}
@@ -14,14 +13,14 @@ use Rattle.rules.specs.declared.kinds.Kind.{Kind}
 use Rattle.rules.specs.Facts.{Relation, Holds, Closed}
 use Rattle.rules.specs.Stated.{selection, labelling, Stated}
 use Rattle.rules.specs.Derived.{derived, facts_of}
-use Rattle.rules.specs.Clashes.{clashes_at, clashes}
+use Rattle.rules.specs.Clashes.{clashes}
 use Rattle.rules.specs.Support.{supported}
-use Rattle.rules.proofs.Logic.{both, either_first, either_second, either_of}
+use Rattle.rules.proofs.Logic.{either_first, either_second, either_of}
 use Rattle.rules.proofs.Lists.{named}
 use Rattle.rules.proofs.Supported.{under_by, over_by, label_by, Carries, carried}
 use Rattle.rules.proofs.Tables.{fact_row, fact_column}
 use Rattle.rules.proofs.Derived.{derived_closed}
-use Rattle.rules.proofs.Clashing.{not_clashing, differ_by}
+use Rattle.rules.proofs.Clashing.{labels_equal}
 use Rattle.trees.proofs.Structures.{Laws}
 
 -- the facts, and each number related to itself
@@ -80,12 +79,7 @@ module _ (n : ℕ) (st : List Statement) (fit : AllName n st) where
   -- F5 where the statements do not clash
   labels_agree : clashes st n ≡ false → (i j a b : ℕ) → Holds related Kind.Compatible i j
       → Stated st (labelling i a) → Stated st (labelling j b) → a ≡ b
-  unfolding clashes_at
-  labels_agree e i j a b p s s' =
-      let h = named n st fit s in
-      let clear = not_clashing st n e i j h (named n st fit s') in
-      ⊎_elim (λ e. e) (λ d. absurd (both_ways _ clear (both (to_fact Kind.Compatible i j h p) (differ_by s s' d))))
-      (cases_eq a b)
+  labels_agree e i j a b p s s' = labels_equal st n e (to_fact Kind.Compatible i j (named n st fit s) p) s s'
 
   related_closed : Closed n st (Holds related)
   related_closed =

@@ -9,6 +9,7 @@ use Rattle.items.specs.Statements.{AllName}
 use Rattle.rules.specs.declared.kinds.Kind.{Kind}
 use Rattle.rules.specs.Facts.{Relation, Holds, Closed}
 use Rattle.rules.specs.Stated.{selection, labelling, Stated}
+use Rattle.rules.proofs.Roots.{compatible_under}
 
 -- the facts r are closed over n variables and F5 applies nowhere; every number is related to itself, and one that is no
 -- variable to no other
@@ -82,9 +83,9 @@ module _ {n : ℕ} {st : List Statement} {r : Relation} (L : Laws n st r) where
   -- F3.2 on the right, and on both sides
   pub compatible_right : {i j k : ℕ} → Holds r Kind.Compatible i j → Holds r Kind.Ordered k j
       → Holds r Kind.Compatible i k
-  compatible_right h p = symmetric L (through L Kind.Compatible p (symmetric L h))
+  compatible_right {i} h p = compatible_under L.closed (L.self Kind.Ordered i) h p
 
   pub compatible_below : {i j k l : ℕ} → Holds r Kind.Ordered k i → Holds r Kind.Compatible i j
       → Holds r Kind.Ordered l j
       → Holds r Kind.Compatible k l
-  compatible_below p h q = compatible_right (through L Kind.Compatible p h) q
+  compatible_below p h q = compatible_under L.closed p h q

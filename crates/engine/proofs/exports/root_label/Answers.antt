@@ -2,7 +2,7 @@
 use Rattle.std.proofs.Common.{sym, ap, ◌∙◌, ◌+◌}
 use Rattle.labels.specs.Roots.{label_in}
 use Rattle.promise.specs.Roots.{label_number}
-use Rattle.promise.proofs.Labels.{label_returned}
+use Rattle.promise.proofs.Told.{label_returned}
 use Rattle.engine.proofs.exports.root_label.Goals as goal
 
 pub returns-in-None : goal.returns-in-None
