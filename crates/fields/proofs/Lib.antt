@@ -2,5 +2,6 @@
 pub mod Choice
 pub mod Chains
 pub mod Extents
+pub mod Runs
 pub mod Rows
 pub mod Bounds

@@ -7,8 +7,9 @@ use Rattle.fields.specs.Refusals.{number_of}
 pub rows : List Fault
 rows =
     Fault.Cut ∷ Fault.HeaderMap ∷ Fault.VariableCount ∷ Fault.Count ∷ Fault.ItemMap
-    ∷ Fault.VariableRange ∷ Fault.Trailing ∷ Fault.ShortTable ∷ Fault.ShortReplies ∷ []
+    ∷ Fault.VariableRange ∷ Fault.Trailing ∷ Fault.ShortTable ∷ Fault.ShortReplies
+    ∷ Fault.PathLength ∷ []
 
-pub rows_numbered : map number_of rows ≡ 1 ∷ 2 ∷ 3 ∷ 4 ∷ 5 ∷ 6 ∷ 7 ∷ 8 ∷ 9 ∷ []
+pub rows_numbered : map number_of rows ≡ 1 ∷ 2 ∷ 3 ∷ 4 ∷ 5 ∷ 6 ∷ 7 ∷ 8 ∷ 9 ∷ 10 ∷ []
 unfolding rows
 rows_numbered = refl

@@ -1,6 +1,6 @@
 -- One field at a cursor: looked for whole, then judged. `then_field` and `then_value` read on
 -- behind it, or pass the refusal on.
-use Rattle.std.specs.Prelude.{ℕ, ◌+◌, ◌*◌, Bool, true, false, List, get_or, Option, Some, None, Result, Ok, Err, ◌≡◌}
+use Rattle.std.specs.Prelude.{ℕ, zero, suc, ◌+◌, ◌*◌, Bool, true, false, List, [], ◌∷◌, get_or, Option, Some, None, Result, Ok, Err, ◌≡◌}
 use Rattle.fields.specs.declared.fields.Field.{Field}
 use Rattle.fields.specs.declared.numbers.Cursor.{Cursor}
 use Rattle.fields.specs.declared.numbers.Feature.{Feature}
@@ -72,3 +72,12 @@ field_if stands read c = pick stands (present read) (found None c)
 abbrev pub ReadIf : {T : Type 0} → (Read T → Type 0) → Bool → Cursor → Read (Option T) → Type 0
 ReadIf Reads true c answer = (read : Read _) × Reads read × (answer ≡ present read)
 ReadIf Reads false c answer = answer ≡ found None c
+
+-- where as many fields, one behind the other, end; and their values
+unfoldable pub run_end : {T : Type 0} → ℕ → (Cursor → Read T) → Cursor → Result Cursor Refusal
+run_end zero read c = Ok c
+run_end (suc left) read c = then_field (read c) Err λ x next. run_end left read next
+
+unfoldable pub run_of : {T : Type 0} → ℕ → (Cursor → Read T) → Cursor → List T
+run_of zero read c = []
+run_of (suc left) read c = then_field (read c) (λ r. []) λ x next. x ∷ run_of left read next

@@ -8,3 +8,7 @@ most_variables = 128
 -- the most records, and the most questions
 abbrev pub most_items : ℕ
 most_items = 1024
+
+-- the most features of a path
+abbrev pub most_features : ℕ
+most_features = 8

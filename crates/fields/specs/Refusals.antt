@@ -4,7 +4,7 @@ use Rattle.fields.specs.declared.numbers.Cursor.{Cursor}
 use Rattle.fields.specs.declared.refusals.Fault.{Fault}
 use Rattle.fields.specs.declared.refusals.Place.{Place}
 use Rattle.fields.specs.declared.refusals.Refusal.{Refusal}
-use Rattle.fields.specs.Limits.{most_variables, most_items}
+use Rattle.fields.specs.Limits.{most_variables, most_items, most_features}
 use Rattle.fields.specs.Tests.{less, same, has}
 
 -- the number of each fault
@@ -18,6 +18,7 @@ number_of Fault.VariableRange = 6
 number_of Fault.Trailing = 7
 number_of Fault.ShortTable = 8
 number_of Fault.ShortReplies = 9
+number_of Fault.PathLength = 10
 
 abbrev pub refusal : Fault → ℕ → Refusal
 refusal fault at = record { fault = fault; at = at }
@@ -50,13 +51,14 @@ bad_count count = less most_items count
 abbrev pub count_refusal : Cursor → Refusal
 count_refusal field = refusal Fault.Count field.at
 
--- 5, item map: 0, with a bit that its place does not define, 4 to 7, or with several bits in a question; told at the map
+-- 5, item map: 0, with a bit that its place does not define, 4 to 7 in a record and 5 to 7 in a question, or with several
+-- bits in a question; told at the map
 abbrev pub defined_bits : Place → ℕ
 defined_bits Place.Record = 15
-defined_bits Place.Question = 15
+defined_bits Place.Question = 31
 
 unfoldable pub several_bits : ℕ → Bool
-several_bits map = not (same map 1 || (same map 2 || (same map 4 || same map 8)))
+several_bits map = not (same map 1 || (same map 2 || (same map 4 || (same map 8 || same map 16))))
 
 abbrev pub too_many_bits : Place → ℕ → Bool
 too_many_bits Place.Record map = false
@@ -95,3 +97,10 @@ short_replies questions lent = less lent questions
 
 abbrev pub replies_refusal : Refusal
 replies_refusal = refusal Fault.ShortReplies 0
+
+-- 10, the count of a path: 0, or more than the limit; told at the count
+unfoldable pub bad_path_length : ℕ → Bool
+bad_path_length count = same count 0 || less most_features count
+
+abbrev pub path_length_refusal : Cursor → Refusal
+path_length_refusal field = refusal Fault.PathLength field.at

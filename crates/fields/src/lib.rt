@@ -7,6 +7,6 @@ mod numbers;
 mod refusals;
 
 pub use fields::{Field, Read, has_bit, read_byte, read_if, read_variable, read_word};
-pub use limits::{MOST_ITEMS, MOST_VARIABLES};
+pub use limits::{MOST_FEATURES, MOST_ITEMS, MOST_VARIABLES};
 pub use numbers::{Cursor, Feature, Label, Variable};
 pub use refusals::{Fault, Place, Refusal};

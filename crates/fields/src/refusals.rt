@@ -12,7 +12,8 @@ pub enum Fault {
     VariableCount,
     // 4: record or question count above the limit; told at its high byte
     Count,
-    // 5: item map 0, with one of bits 4 to 7, or with several bits in a question; told at the map
+    // 5: item map 0, with one of bits 4 to 7 in a record, 5 to 7 in a question, or with several bits in a question; told
+    // at the map
     ItemMap,
     // 6: variable n or more; told at its byte
     VariableRange,
@@ -22,6 +23,8 @@ pub enum Fault {
     ShortTable,
     // 9: reply buffer shorter than the question count; told at 0
     ShortReplies,
+    // 10: a path of no feature, or of more than the limit; told at the count
+    PathLength,
 }
 
 // What is told of a refused sheet: the fault and its offset.
@@ -53,6 +56,7 @@ impl From<Fault> for u8 {
             Fault::Trailing => 7,
             Fault::ShortTable => 8,
             Fault::ShortReplies => 9,
+            Fault::PathLength => 10,
         }
     }
 }

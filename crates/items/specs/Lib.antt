@@ -1,4 +1,5 @@
--- Records and questions of a sheet, and what they state and ask.
+-- Records and questions of a sheet, paths, and what they state and ask.
+pub mod Paths
 pub mod Items
 pub mod Statements
 pub mod Questions

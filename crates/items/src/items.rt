@@ -3,9 +3,11 @@ ghost use Rattle.std.specs.Prelude.{◌≡◌};
 ghost use Rattle.fields.specs.Fields.{variable_field, field_if};
 ghost use Rattle.fields.specs.Refusals.{defined_bits, several_bits, bad_item_map};
 ghost use Rattle.items.specs.Items.{map_field, edge_field, label_field, fields_at, item_at, question_at, items_end};
+ghost use Rattle.items.specs.Paths.{path_field};
 ghost use Rattle.items.specs.Questions.{question_of};
 ghost use Rattle.items.specs.Statements.{ordering_of, compatibility_of, selection_of, labelling_of, statement_of};
 
+use crate::paths::{Path, read_path};
 use fields::{
     Cursor, Fault, Feature, Field, Label, Place, Read, Refusal, Variable, has_bit, read_byte,
     read_if, read_variable, read_word,
@@ -29,6 +31,8 @@ pub enum Statement {
 pub enum Question {
     // whether a statement holds
     Holds(Statement),
+    // whether a variable has a path
+    HasPath(Variable, Path),
 }
 
 // A feature, and the child that it leads to.
@@ -46,6 +50,7 @@ pub struct Item {
     pub partner: Option<Variable>,
     pub edge: Option<Edge>,
     pub label: Option<Label>,
+    pub path: Option<Path>,
 }
 
 // An item's map, a bit for each field behind the subject. It stays the format's byte: has_bit is promised of any byte.
@@ -57,20 +62,23 @@ const EDGE: u8 = 4;
 
 const LABEL: u8 = 8;
 
+const PATH: u8 = 16;
+
 // A map other than one bit alone.
 #[tactic(auto, unfolding(fields::specs::Refusals::several_bits, fields::specs::Tests::same))]
 fn has_several_bits(map: u8) -> bool
     ensures { result ≡ several_bits map }
 {
-    !matches!(map, TARGET | PARTNER | EDGE | LABEL)
+    !matches!(map, TARGET | PARTNER | EDGE | LABEL | PATH)
 }
 
-// The sum of the bits that a place defines: 0 to 3.
+// The sum of the bits that a place defines: 0 to 3, and 4 in a question.
 fn defined_bits(place: Place) -> u8
     ensures { result ≡ defined_bits place }
 {
     match place {
-        Place::Record | Place::Question => TARGET | PARTNER | EDGE | LABEL,
+        Place::Record => TARGET | PARTNER | EDGE | LABEL,
+        Place::Question => TARGET | PARTNER | EDGE | LABEL | PATH,
     }
 }
 
@@ -149,9 +157,17 @@ fn read_fields(sheet: &[u8], n: u8, map: u8, subject: Variable, from: Cursor) ->
             partner: partner.value,
             edge: edge.value,
             label: label.value,
+            path: None,
         },
         next: label.next,
     })
+}
+
+// A path that is there only where its bit stands, which is a flag as at `read_if`.
+fn read_path_if(stands: bool, sheet: &[u8], from: Cursor) -> Read<Option<Path>>
+    ensures { result ≡ field_if stands (path_field sheet.now from) from }
+{
+    read_if(stands, from, |at| read_path(sheet, at))
 }
 
 // The item at a cursor, over n variables.
@@ -161,7 +177,15 @@ pub fn read_item(place: Place, sheet: &[u8], n: u8, from: Cursor) -> Read<Item>
 {
     let map = read_map(place, sheet, from)?;
     let subject = read_variable(sheet, n, map.next)?;
-    read_fields(sheet, n, map.value, subject.value, subject.next)
+    let fields = read_fields(sheet, n, map.value, subject.value, subject.next)?;
+    let path = read_path_if(has_bit(PATH, map.value), sheet, fields.next)?;
+    Ok(Field {
+        value: Item {
+            path: path.value,
+            ..fields.value
+        },
+        next: path.next,
+    })
 }
 
 // A record at a cursor.
@@ -219,7 +243,10 @@ impl From<Item> for Question {
 
     #[tactic(auto, unfolding(crate::specs::Questions::question_of))]
     fn from(item: Item) -> Question {
-        Question::Holds(statement_of(item))
+        match item.path {
+            Some(path) => Question::HasPath(item.subject, path),
+            None => Question::Holds(statement_of(item)),
+        }
     }
 }
 
@@ -232,7 +259,7 @@ pub fn read_question(sheet: &[u8], n: u8, from: Cursor) -> Read<Question>
 }
 
 // Where so many items from a cursor on end. No struct of these, as above: count and cursor change at each turn.
-#[tactic(auto, using(crate::proofs::Runs::run_over, crate::proofs::Runs::run_step, crate::proofs::Runs::run_refused))]
+#[tactic(auto, using(fields::proofs::Runs::run_over, fields::proofs::Runs::run_step, fields::proofs::Runs::run_refused))]
 pub fn items_end(
     count: u16,
     place: Place,

@@ -1,5 +1,5 @@
--- What stands behind the first 14,343 bytes of an input cannot change how it is read: every field that is looked for
--- lies in the first 14,342, and one byte more tells that something follows.
+-- What stands behind the first 28,679 bytes of an input cannot change how it is read: every field that is looked for
+-- lies in the first 28,678, and one byte more tells that something follows.
 use Rattle.std.specs.Prelude.{Result, Ok, Err}
 use Prim.Native.Nat.{ℕ, zero, suc, ◌+◌, ◌*◌, ◌≤◌, ◌<◌}
 use mathlib.Core.Bool.{Bool, true, false}
@@ -16,7 +16,7 @@ use Rattle.fields.specs.declared.numbers.Variable.{Variable}
 use Rattle.fields.specs.declared.refusals.Place.{Place}
 use Rattle.fields.specs.declared.refusals.Refusal.{Refusal}
 use Rattle.fields.specs.Fields.{Read, cursor, found, then_value, then_field, judged}
-use Rattle.fields.specs.Fields.{byte_field, word_field, variable_field, field_if}
+use Rattle.fields.specs.Fields.{byte_field, word_field, variable_field, field_if, run_end}
 use Rattle.fields.specs.Refusals.{ends, remain}
 use Rattle.fields.specs.Tests.{pick, has}
 use Rattle.fields.proofs.Chains.{Of}
@@ -26,7 +26,9 @@ use Rattle.sheet.specs.declared.headers.Header.{Header}
 use Rattle.sheet.specs.Headers.{header_map, variable_count, count_field, count_if, header_of}
 use Rattle.sheet.proofs.Heads.{Heads, header_spans, count_if_spans}
 use Rattle.items.specs.Items.{map_field, fields_width, width, most, edge_field, label_field, fields_at, item_at, items_end}
-use Rattle.items.proofs.Filled.{edge_spans, label_spans}
+use Rattle.items.specs.Paths.{path, count_field as path_count, features_end, path_field}
+use Rattle.items.proofs.Filled.{edge_spans, label_spans, fields_span}
+use Rattle.items.proofs.PathFields.{few_features, path_if_spans}
 use Rattle.items.proofs.Lawful.{width_most, item_spans, most_least}
 use Rattle.items.proofs.Runs.{run_spans}
 use Rattle.sheet.specs.declared.whole.TheConstants.{LONGEST_SHEET}
@@ -100,6 +102,21 @@ module _ {m : ℕ} {s u : List ℕ} (alike : Alike m s u) where
       same_field _ (if_alike (has 8 map) _ _ c₃ λ e. label_alike c₃ (omega (arith, picked (has 8 map) 2 e)))
       (if_spans (has 8 map) _ (label_spans s c₃)) λ v₄ c₄ p₄. refl
 
+  features_alike : (k : ℕ) (c : Cursor) → c.at + 2 * k ≤ m → features_end k s c ≡ features_end k u c
+  unfolding run_end
+  features_alike zero c h = refl
+  features_alike (suc k) c h =
+      same_field _ (word_alike c (omega arith)) (word_spans s c) λ f next p.
+      features_alike k next (omega (arith, p.0.reaches))
+
+  path_alike : (c : Cursor) → c.at + 17 ≤ m → path_field s c ≡ path_field u c
+  unfolding path_field path_count
+  path_alike c h =
+      same_field _ (ap (judged _ _) (byte_alike c (omega arith))) (judged_spans s c _ _ (omega arith)) λ count first p.
+      let few = few_features count p.1 in
+      ap (λ ends. then_value ends Err λ end. found (path count first) end)
+      (features_alike count first (omega (arith, few, p.0.reaches)))
+
   item_alike : (place : Place) (n : ℕ) (c : Cursor) → c.at + most place ≤ m → item_at place s n c ≡ item_at place u n c
   unfolding item_at map_field width
   item_alike place n c h =
@@ -107,17 +124,18 @@ module _ {m : ℕ} {s u : List ℕ} (alike : Alike m s u) where
       (judged_spans s c _ _ (omega arith)) λ map c₁ p₁.
       let fits = width_most place map p₁.1 in
       same_field _ (variable_alike n c₁ (omega arith)) (variable_spans s c₁ n) λ i c₂ p₂.
-      fields_alike n map i c₂ (omega arith)
+      same_field _ (fields_alike n map i c₂ (omega arith)) (fields_span s n map i c₂) λ x c₃ p₃.
+      same_field _ (if_alike (has 16 map) _ _ c₃ λ e. path_alike c₃ (omega (arith, picked (has 16 map) 17 e, p₃.span.reaches)))
+      (path_if_spans s (has 16 map) c₃) λ path c₄ p₄. refl
 
   items_alike : (place : Place) (n left : ℕ) (c : Cursor) → c.at + left * most place ≤ m
       → items_end left place s n c ≡ items_end left place u n c
-  unfolding items_end
+  unfolding run_end
   items_alike place n zero c h = refl
   items_alike place n (suc left) c h =
       let step = suc-mul left (most place) in
       same_field _ (item_alike place n c (omega arith)) (item_spans place s n c) λ x next p.
-      let fits = width_most place p.map p.lawful in
-      items_alike place n left next (omega arith)
+      items_alike place n left next (omega (arith, p.near))
 
   count_if_alike : (stands : Bool) (c : Cursor) → c.at + pick stands 2 0 ≤ m → count_if stands s c ≡ count_if stands u c
   unfolding count_if count_field
@@ -164,11 +182,11 @@ beyond_any m s b =
     ⊎_elim (λ h. ap read_sheet (take_all m s (omega arith))) (λ h. read_alike (alike_taken m s h) b)
     (cases_lt (length s) m)
 
--- what stands behind the first 14,343 bytes is not read
+-- what stands behind the first 28,679 bytes is not read
 pub beyond_unread : (s : List ℕ) → read_sheet (take (longest + 1) s) ≡ read_sheet s
 beyond_unread s = beyond_any (longest + 1) s (omega arith)
 
--- a refusal is that of the first 14,343 bytes, so with its number and offset, and an accepted input has no more
+-- a refusal is that of the first 28,679 bytes, so with its number and offset, and an accepted input has no more
 pub beyond_refused : (s : List ℕ) (r : Refusal) → read_sheet s ≡ Err r
     → read_sheet (take (longest + 1) s) ≡ Err r
 beyond_refused s r e = beyond_unread s ∙ e

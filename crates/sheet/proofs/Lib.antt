@@ -4,5 +4,6 @@ pub mod Accepting
 pub mod Named
 pub mod Longest
 pub mod Theorems
+pub mod Asked
 pub mod Beyond
 pub mod Inside

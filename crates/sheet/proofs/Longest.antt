@@ -1,11 +1,11 @@
--- A sheet of the longest length is accepted: 1,024 records with all fields and 1,024 questions i[f]j.
+-- A sheet of the longest length is accepted: 1,024 records with all fields and 1,024 questions for a path of eight features.
 use Rattle.std.specs.List.{range_with_len}
-use Rattle.std.specs.Prelude.{Ok, Err}
+use Rattle.std.specs.Prelude.{Result, Ok, Err}
 use Rattle.std.proofs.lemmas.List.FromFn.{length-map-range_with_len, get_or-map-range_with_len}
 use Prim.Native.Nat.{ℕ, zero, suc, ◌+◌, ◌*◌, ◌-◌, ◌%◌, ◌≤◌, ◌<◌}
 use mathlib.Core.Bool.{Bool, true, false}
 use mathlib.Core.List.{List, map}
-use mathlib.Core.Path.{◌≡◌, refl, sym, ◌∙◌}
+use mathlib.Core.Path.{◌≡◌, refl, sym, ap, ◌∙◌}
 use lib.ListN.{length, get_or}
 use native.Mathlib.Nat.{suc-mul}
 use native.Mathlib.Omega.{arith}
@@ -13,16 +13,17 @@ use Rattle.fields.specs.declared.fields.Field.{Field}
 use Rattle.fields.specs.declared.numbers.Cursor.{Cursor}
 use Rattle.fields.specs.declared.numbers.Variable.{Variable}
 use Rattle.fields.specs.declared.refusals.Place.{Place}
-use Rattle.fields.specs.Fields.{Read, cursor, word, byte_field, word_field, variable_field, field_if}
+use Rattle.fields.specs.declared.refusals.Refusal.{Refusal}
+use Rattle.fields.specs.Fields.{Read, cursor, word, byte_field, word_field, variable_field, field_if, run_end}
 use Rattle.fields.specs.Refusals.{ends, bad_header_map, bad_variable_count, bad_count, bad_item_map, several_bits}
-use Rattle.fields.specs.Refusals.{bad_variable, remain}
+use Rattle.fields.specs.Refusals.{bad_variable, remain, bad_path_length}
 use Rattle.fields.specs.Tests.{less, same, pick, has}
-use Rattle.fields.proofs.Chains.{Of, told, either, after_field}
-use Rattle.fields.proofs.Choice.{chosen, passed, is_less, not_less, is_same, less_true, picked}
-use Rattle.sheet.specs.Headers.{header, header_map, variable_count, count_field, count_if, header_of}
+use Rattle.fields.proofs.Chains.{Of, told, either, after_field, after_value, as_value}
+use Rattle.fields.proofs.Choice.{chosen, passed, is_less, not_less, is_same, less_true, less_false, picked}
+use Rattle.sheet.specs.Headers.{header, header_map, variable_count, count_field as header_count, count_if, header_of}
 use Rattle.items.specs.declared.items.Item.{Item}
 use Rattle.items.specs.Items.{map_field, edge_field, label_field, fields_at, item_at, items_end, fields_width, width}
-use Rattle.items.proofs.Lawful.{item_spans}
+use Rattle.items.specs.Paths.{count_field, features_end, path_field}
 use Rattle.sheet.specs.Sheets.{accepted, body_of, read_sheet, longest}
 
 -- a field that lies inside the sheet is found, and a variable field whose byte is below n
@@ -43,9 +44,9 @@ module _ (s : List ℕ) (n : ℕ) where
       rw (not_less (length s) (c.at + 1) h.inside, here)
       (record { holds = refl })
 
-  word_there : (c : Cursor) → Small s n c 2 → Of (There 2 c) (word_field s c)
-  unfolding word_field ends pick
-  word_there c h = rw (not_less (length s) (c.at + 2) h.inside) (record { holds = refl })
+word_there : (s : List ℕ) (c : Cursor) → c.at + 2 ≤ length s → Of (There 2 c) (word_field s c)
+unfolding word_field ends pick
+word_there s c h = rw (not_less (length s) (c.at + 2) h) (record { holds = refl })
 
 -- so is one that is there where its bit stands
 if_there : {T : Type 0} (w : ℕ) (stands : Bool) (read : Read T) (c : Cursor) → (stands ≡ true → Of (There w c) read)
@@ -62,22 +63,18 @@ within h a b = record { inside = omega arith; below = λ o p q. h.below o (omega
 edge_there : (s : List ℕ) (n : ℕ) (c : Cursor) → Small s n c 3 → Of (There 3 c) (edge_field s n c)
 unfolding edge_field
 edge_there s n c h =
-    after_field (word_there s n c (within h (omega arith) (omega arith))) (λ q f. absurd f) λ v₁ c₁ p₁.
+    after_field (word_there s c (omega (arith, h.inside))) (λ q f. absurd f) λ v₁ c₁ p₁.
     after_field (variable_there s n c₁ (within h (omega arith) (omega arith))) (λ q f. absurd f) λ v₂ c₂ p₂.
     record { holds = omega arith }
 
 label_there : (s : List ℕ) (n : ℕ) (c : Cursor) → Small s n c 2 → Of (There 2 c) (label_field s c)
 unfolding label_field
 label_there s n c h =
-    after_field (word_there s n c h) (λ q f. absurd f) λ v next p. record { holds = p }
+    after_field (word_there s c h.inside) (λ q f. absurd f) λ v next p. record { holds = p }
 
--- an item whose map is lawful and whose other bytes are below n is found
-abbrev IsRead : Read Item → Type 0
-IsRead (Ok f) = Unit {0}
-IsRead (Err r) = ⊥
-
+-- so are the fields behind a subject, where the bytes that their map asks for are below n
 fields_there : (s : List ℕ) (n map : ℕ) (i : Variable) (c : Cursor) → Small s n c (fields_width map)
-    → Of IsRead (fields_at s n map i c)
+    → Of (There (fields_width map) c) (fields_at s n map i c)
 unfolding fields_at fields_width
 fields_there s n map i c h =
     after_field (if_there 1 (has 1 map) _ c λ e. variable_there s n c (within h (omega arith) (omega (arith, picked (has 1 map) 1 e))))
@@ -88,71 +85,93 @@ fields_there s n map i c h =
     (λ q f. absurd f) λ v₃ c₃ p₃.
     after_field (if_there 2 (has 8 map) _ c₃ λ e. label_there s n c₃ (within h (omega arith) (omega (arith, picked (has 8 map) 2 e))))
     (λ q f. absurd f) λ v₄ c₄ p₄.
-    record { holds = tt }
+    record { holds = omega arith }
 
-item_there : (place : Place) (s : List ℕ) (n map : ℕ) (c : Cursor) → bad_item_map place map ≡ false
-    → get_or s c.at 0 ≡ map
-    → Small s n (cursor (c.at + 1)) (suc (fields_width map)) → Of IsRead (item_at place s n c)
-unfolding item_at map_field byte_field ends pick
-item_there place s n map c lawful is h =
-    rw (not_less (length s) (c.at + 1) (omega arith), is, lawful)
+-- and an item of a lawful map that has no path
+item_there : (place : Place) (s : List ℕ) (n m : ℕ) (c : Cursor) → bad_item_map place m ≡ false → has 16 m ≡ false
+    → get_or s c.at 0 ≡ m
+    → Small s n (cursor (c.at + 1)) (suc (fields_width m)) → Of (There (width m) c) (item_at place s n c)
+unfolding item_at map_field byte_field ends pick field_if width
+item_there place s n m c lawful no_path is h =
+    rw (not_less (length s) (c.at + 1) (omega arith), is, lawful, no_path)
     (after_field (variable_there s n (cursor (c.at + 1)) (within h (omega arith) (omega arith)))
     (λ q f. absurd f) λ i c₂ p.
-    fields_there s n map i c₂ (within h (omega arith) (omega arith)))
+    after_field (fields_there s n m i c₂ (within h (omega arith) (omega arith)))
+    (λ q f. absurd f) λ x c₃ p'. record { holds = omega (arith, p, p') })
 
--- so many items of one map, one behind the other
-record Items (s : List ℕ) (n map k : ℕ) (c : Cursor) : Type 0 where
-  maps : (j : ℕ) → j < k → get_or s (c.at + j * width map) 0 ≡ map
-  others : (j : ℕ) → j < k → Small s n (cursor (c.at + j * width map + 1)) (suc (fields_width map))
+-- so many features that lie inside the sheet
+abbrev EndsAt : ℕ → Cursor → Result Cursor Refusal → Type 0
+EndsAt w c (Ok next) = next.at ≡ c.at + w
+EndsAt w c (Err r) = ⊥
 
-first_item : (s : List ℕ) (n map k : ℕ) (c : Cursor) → Items s n map (suc k) c
-    → (get_or s c.at 0 ≡ map) × Small s n (cursor (c.at + 1)) (suc (fields_width map))
-first_item s n map k c h =
-    let here : c.at + 0 * width map ≡ c.at = omega arith in
-    (rw here at (h.maps 0 (omega arith)), rw here at (h.others 0 (omega arith)))
+features_there : (s : List ℕ) (k : ℕ) (c : Cursor) → c.at + 2 * k ≤ length s → Of (EndsAt (2 * k) c) (features_end k s c)
+unfolding run_end
+features_there s zero c h = record { holds = omega arith }
+features_there s (suc k) c h =
+    after_field (word_there s c (omega (arith, h))) (λ q f. absurd f) λ f next p.
+    as_value (features_there s k next (omega (arith, p))) (λ q f. absurd f) λ end e. omega (arith, p, e)
 
-later_items : (s : List ℕ) (n map k : ℕ) (c next : Cursor) → next.at ≡ c.at + width map → Items s n map (suc k) c
-    → Items s n map k next
-later_items s n map k c next e h =
-    record {
-      maps = λ j b. rw (on j) at (h.maps (suc j) (omega arith));
-      others = λ j b. rw (on j) at (h.others (suc j) (omega arith));
-    }
-  where
-    on : (j : ℕ) → c.at + suc j * width map ≡ next.at + j * width map
-    on j = omega (arith, suc-mul j (width map))
+lawful_path : bad_path_length 8 ≡ false
+unfolding bad_path_length same less
+lawful_path = refl
 
--- where they end
-record Ends (place : Place) (s : List ℕ) (n map k : ℕ) (c : Cursor) : Type 0 where
+path_there : (s : List ℕ) (c : Cursor) → c.at + 17 ≤ length s → get_or s c.at 0 ≡ 8 → Of (There 17 c) (path_field s c)
+unfolding path_field count_field byte_field ends pick
+path_there s c h is =
+    rw (not_less (length s) (c.at + 1) (omega arith), is, lawful_path)
+    (after_value (features_there s 8 (cursor (c.at + 1)) (omega arith)) (λ q f. absurd f) λ end e.
+    record { holds = omega (arith, e) })
+
+lawful_question : bad_item_map Place.Question 16 ≡ false
+unfolding bad_item_map several_bits same less
+lawful_question = refl
+
+-- a question for a path of eight features of variable 0
+question_there : (s : List ℕ) (n : ℕ) (c : Cursor) → c.at + 19 ≤ length s → get_or s c.at 0 ≡ 16 → 0 < n
+    → get_or s (c.at + 1) 0 ≡ 0 → get_or s (c.at + 2) 0 ≡ 8 → Of (There 19 c) (item_at Place.Question s n c)
+unfolding item_at map_field byte_field ends pick field_if fields_at variable_field bad_variable has same
+question_there s n c h map_is few subject_is count_is =
+    let two : c.at + 1 + 1 ≡ c.at + 2 = omega arith in
+    rw (
+      not_less (length s) (c.at + 1) (omega arith),
+      map_is,
+      lawful_question,
+      not_less (length s) (c.at + 1 + 1) (omega arith),
+      subject_is,
+      is_less 0 n few,
+    )
+    (after_field (if_there 17 true _ _ λ e. path_there s (cursor (c.at + 1 + 1)) (omega arith) (rw two count_is))
+    (λ q f. absurd f) λ path next p.
+    record { holds = omega (arith, p) })
+
+-- so many items of w bytes, one behind the other, and where they end
+abbrev Apart : Place → List ℕ → ℕ → ℕ → ℕ → Cursor → Type 0
+Apart place s n w k c = (j : ℕ) (at : Cursor) → j < k → at.at ≡ c.at + j * w → Of (There w at) (item_at place s n at)
+
+record Ends (place : Place) (s : List ℕ) (n w k : ℕ) (c : Cursor) : Type 0 where
   end : Cursor
   is : items_end k place s n c ≡ Ok end
-  reaches : end.at ≡ c.at + k * width map
+  reaches : end.at ≡ c.at + k * w
 
-items_there : (place : Place) (s : List ℕ) (n map : ℕ) → bad_item_map place map ≡ false → (k : ℕ) (c : Cursor)
-    → Items s n map k c → Ends place s n map k c
-unfolding items_end
-items_there place s n map lawful zero c h = record { end = c; is = refl; reaches = omega arith }
-items_there place s n map lawful (suc k) c h = on (item_at place s n c) refl (items_there place s n map lawful k)
+items_there : (place : Place) (s : List ℕ) (n w k : ℕ) (c : Cursor) → Apart place s n w k c → Ends place s n w k c
+unfolding run_end
+items_there place s n w zero c there = record { end = c; is = refl; reaches = omega arith }
+items_there place s n w (suc k) c there = first (item_at place s n c) refl (items_there place s n w k)
   where
-    there : Of IsRead (item_at place s n c)
-    there = let first = first_item s n map k c h in item_there place s n map c lawful first.0 first.1
+    on : (f : Field Item) → item_at place s n c ≡ Ok f → f.next.at ≡ c.at + w → Ends place s n w k f.next
+        → Ends place s n w (suc k) c
+    on f e ahead later = record { end = later.end; is = rw e later.is; reaches = omega (arith, suc-mul k w, later.reaches) }
 
-    found : (f : Field Item) → item_at place s n c ≡ Ok f → f.next.at ≡ c.at + width map
-        → Ends place s n map k f.next → Ends place s n map (suc k) c
-    found f e ahead later =
-        record { end = later.end; is = rw e later.is; reaches = omega (arith, suc-mul k (width map)) }
+    first : (r : Read Item) → item_at place s n c ≡ r → ((c : Cursor) → Apart place s n w k c → Ends place s n w k c)
+        → Ends place s n w (suc k) c
+    first (Ok f) e later =
+        let ahead : f.next.at ≡ c.at + w = told (there 0 c (omega arith) (omega arith)) e in
+        on f e ahead
+        (later f.next λ j at h is. there (suc j) at (omega arith) (omega (arith, suc-mul j w, is, ahead)))
+    first (Err q) e later = absurd (told (there 0 c (omega arith) (omega arith)) e)
 
-    on : (r : Read Item) → item_at place s n c ≡ r → ((c : Cursor) → Items s n map k c → Ends place s n map k c)
-        → Ends place s n map (suc k) c
-    on (Ok f) e rest =
-        let read = told (item_spans place s n c) e in
-        let same : read.map ≡ map = sym read.map_is ∙ (first_item s n map k c h).0 in
-        let ahead : f.next.at ≡ c.at + width map = rw same at read.reaches in
-        found f e ahead (rest f.next (later_items s n map k c f.next ahead h))
-    on (Err q) e rest = absurd (told there e)
-
--- its bytes: the header 7 128 4 0 4 0, from 6 on the map 15 at every ninth byte, from 9222 on the map 4 at every fifth,
--- and else 0
+-- its bytes: the header 7 128 4 0 4 0, from 6 on the map 15 at every ninth byte, from 9222 on at every nineteenth the map
+-- 16, a subject and the count 8, and else 0
 head : ℕ → ℕ
 head zero = 7
 head (suc zero) = 128
@@ -161,10 +180,16 @@ head (suc (suc (suc zero))) = 0
 head (suc (suc (suc (suc zero)))) = 4
 head (suc (suc (suc (suc (suc o))))) = 0
 
+asking : ℕ → ℕ
+asking zero = 16
+asking (suc zero) = 0
+asking (suc (suc zero)) = 8
+asking (suc (suc (suc o))) = 0
+
 longest_byte : ℕ → ℕ
 longest_byte o =
     pick (less o 6) (head o)
-    (pick (less o 9222) (pick (same ((o - 6) % 9) 0) 15 0) (pick (same ((o - 9222) % 5) 0) 4 0))
+    (pick (less o 9222) (pick (same ((o - 6) % 9) 0) 15 0) (asking ((o - 9222) % 19)))
 
 record_map : (j : ℕ) → j < 1024 → longest_byte (6 + j * 9) ≡ 15
 unfolding longest_byte
@@ -172,29 +197,22 @@ record_map j h =
     sym (passed _ _ _ (not_less _ _ (omega arith)) (chosen _ _ _ (is_less _ _ (omega arith))
     (chosen _ _ _ (is_same _ _ (omega arith)) refl)))
 
-question_map : (j : ℕ) → j < 1024 → longest_byte (9222 + j * 5) ≡ 4
+question_byte : (j k : ℕ) → k < 19 → longest_byte (9222 + j * 19 + k) ≡ asking k
 unfolding longest_byte
-question_map j h =
-    sym (passed _ _ _ (not_less _ _ (omega arith)) (passed _ _ _ (not_less _ _ (omega arith))
-    (chosen _ _ _ (is_same _ _ (omega arith)) refl)))
+question_byte j k h =
+    let which : (9222 + j * 19 + k - 9222) % 19 ≡ k = omega arith in
+    sym (passed _ _ _ (not_less _ _ (omega arith)) (passed _ _ _ (not_less _ _ (omega arith)) (ap asking (sym which))))
 
-small_byte : (o : ℕ) → 6 ≤ o → Of (λ v. v < 128) (longest_byte o)
+small_byte : (o : ℕ) → 6 ≤ o → o < 9222 → Of (λ v. v < 128) (longest_byte o)
 unfolding longest_byte
-small_byte o h =
-    either _ _ _ (λ e. absurd (not_both o e h)) λ e.
-    either _ _ _ (λ e. either _ _ _ (λ e. record { holds = omega arith }) (λ e. record { holds = omega arith })) λ e.
-    either _ _ _ (λ e. record { holds = omega arith }) (λ e. record { holds = omega arith })
-  where
-    not_both : (o : ℕ) → less o 6 ≡ true → 6 ≤ o → ⊥
-    not_both o e h = let b = less_true o 6 e in omega arith
+small_byte o h h' =
+    either _ _ _ (λ e. let b = less_true o 6 e in absurd (omega arith)) λ e.
+    either _ _ _ (λ e. either _ _ _ (λ e. record { holds = omega arith }) (λ e. record { holds = omega arith }))
+    (λ e. let b = less_false o 9222 e in absurd (omega arith))
 
 lawful_record : bad_item_map Place.Record 15 ≡ false
 unfolding bad_item_map same less
 lawful_record = refl
-
-lawful_question : bad_item_map Place.Question 4 ≡ false
-unfolding bad_item_map several_bits same less
-lawful_question = refl
 
 -- its header passes each test
 bad_map : bad_header_map 7 ≡ false
@@ -222,28 +240,29 @@ unfolding has same
 has_questions = refl
 
 module _ (s : List ℕ) (long : length s ≡ longest) (byte : (o : ℕ) → o < longest → get_or s o 0 ≡ longest_byte o) where
-  small : (c : Cursor) (w : ℕ) → 6 ≤ c.at → c.at + w ≤ longest → Small s 128 c w
+  small : (c : Cursor) (w : ℕ) → 6 ≤ c.at → c.at + w ≤ 9222 → Small s 128 c w
   small c w a b =
       record {
         inside = omega arith;
-        below = λ o p q. rw (byte o (omega arith)) (small_byte o (omega arith)).holds;
+        below = λ o p q. rw (byte o (omega arith)) (small_byte o (omega arith) (omega arith)).holds;
       }
 
-  records : (c : Cursor) → c.at ≡ 6 → Items s 128 15 1024 c
+  records : Ends Place.Record s 128 9 1024 (cursor 6)
   unfolding width fields_width pick has same
-  records c e =
-      record {
-        maps = λ j h. byte (c.at + j * 9) (omega arith) ∙ (rw e (record_map j h));
-        others = λ j h. small (cursor (c.at + j * 9 + 1)) 8 (omega arith) (omega arith);
-      }
+  records =
+      items_there Place.Record s 128 9 1024 (cursor 6) λ j at h e.
+      item_there Place.Record s 128 15 at lawful_record refl (byte at.at (omega arith) ∙ rw e (record_map j h))
+      (small (cursor (at.at + 1)) 8 (omega arith) (omega arith))
 
-  questions : (c : Cursor) → c.at ≡ 9222 → Items s 128 4 1024 c
-  unfolding width fields_width pick has same
-  questions c e =
-      record {
-        maps = λ j h. byte (c.at + j * 5) (omega arith) ∙ (rw e (question_map j h));
-        others = λ j h. small (cursor (c.at + j * 5 + 1)) 4 (omega arith) (omega arith);
-      }
+  questions : (c : Cursor) → c.at ≡ 9222 → Ends Place.Question s 128 19 1024 c
+  unfolding asking
+  questions c begin =
+      items_there Place.Question s 128 19 1024 c λ j at h e.
+      let asked : (k : ℕ) → k < 19 → get_or s (at.at + k) 0 ≡ asking k = λ k b.
+      let lies : at.at + k ≡ 9222 + j * 19 + k = omega (arith, begin, e) in
+      byte (at.at + k) (omega arith) ∙ ap longest_byte lies ∙ question_byte j k b in
+      let here : at.at + 0 ≡ at.at = omega arith in
+      question_there s 128 at (omega arith) (rw here at (asked 0 (omega arith))) (omega arith) (asked 1 (omega arith)) (asked 2 (omega arith))
 
   in_head : (o : ℕ) → o < 6 → get_or s o 0 ≡ head o
   unfolding longest_byte
@@ -253,7 +272,7 @@ module _ (s : List ℕ) (long : length s ≡ longest) (byte : (o : ℕ) → o < 
   inside o h = not_less _ _ (omega arith)
 
   header_there : header_of s ≡ Ok (header 7 128 1024 1024 (cursor 6))
-  unfolding header_of header_map variable_count count_if field_if count_field byte_field word_field ends head pick
+  unfolding header_of header_map variable_count count_if field_if header_count byte_field word_field ends head pick
   header_there =
       rw (
         inside 1 (omega arith),
@@ -278,10 +297,10 @@ module _ (s : List ℕ) (long : length s ≡ longest) (byte : (o : ℕ) → o < 
       refl
 
   accepted_lem : (asked : Cursor) × (read_sheet s ≡ Ok (accepted (header 7 128 1024 1024 (cursor 6)) asked))
-  unfolding read_sheet body_of remain width fields_width pick has same
+  unfolding read_sheet body_of remain pick
   accepted_lem =
-      let r = items_there Place.Record s 128 15 lawful_record 1024 (cursor 6) (records (cursor 6) refl) in
-      let q = items_there Place.Question s 128 4 lawful_question 1024 r.end (questions r.end r.reaches) in
+      let r = records in
+      let q = questions r.end r.reaches in
       (r.end, rw (header_there, r.is, q.is, not_less q.end.at (length s) (omega arith)) refl)
 
 -- the longest sheet

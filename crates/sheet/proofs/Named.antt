@@ -7,7 +7,7 @@ use mathlib.Core.Path.{◌≡◌, refl, ◌∙◌}
 use Rattle.fields.specs.declared.numbers.Cursor.{Cursor}
 use Rattle.fields.specs.declared.refusals.Place.{Place}
 use Rattle.fields.specs.declared.refusals.Refusal.{Refusal}
-use Rattle.fields.specs.Fields.{then_value}
+use Rattle.fields.specs.Fields.{then_value, run_of}
 use Rattle.fields.specs.Tests.{has, same}
 use Rattle.fields.proofs.Extents.{Held, Any}
 use Rattle.fields.proofs.Chains.{Of, after_field}
@@ -15,7 +15,9 @@ use Rattle.items.specs.declared.items.Item.{Item}
 use Rattle.items.specs.declared.items.Statement.{Statement}
 use Rattle.items.specs.Items.{items_of}
 use Rattle.items.specs.Statements.{bit_of, statements_of, statement_of, Names, AllName}
-use Rattle.items.specs.Questions.{holds, question_of, query_of, AllAsk}
+use Rattle.items.specs.declared.paths.Path.{Path}
+use Rattle.items.specs.Paths.{features_at}
+use Rattle.items.specs.Questions.{holds, has_path, question_by, question_of, query_of, Asks, AllAsk}
 use Rattle.items.proofs.Lawful.{Reads, one_bit, item_spans}
 use Rattle.sheet.specs.declared.whole.Accepted.{Accepted}
 use Rattle.sheet.specs.Sheets.{Named, sheet, read_sheet, all_statements, asks, sheet_at, sheet_of}
@@ -56,6 +58,15 @@ module _ {place : Place} {s : List ℕ} {n : ℕ} {c next : Cursor} (x : Item) w
       (by_first _ (λ out h. (r.subject, h)) x.edge _ r.child
       (record { holds = r.subject })))
 
+  -- what its question asks, of whatever path
+  by_path : Reads place s n c x next → (path : Option Path) → Of (Asks n) (query_of s (question_by x path))
+  by_path r (Some path) = record { holds = r.subject }
+  by_path r None = record { holds = (statement_names r).holds }
+
+  question_names : Reads place s n c x next → Of (Asks n) (asks s x)
+  unfolding question_of
+  question_names r = by_path r x.path
+
 -- a field that is there, and one that is not
 there : {T C : Type 0} (value : Option T) → is_some value ≡ true → ((v : T) → value ≡ Some v → C) → C
 there (Some v) e on = on v refl
@@ -65,40 +76,53 @@ absent : {T : Type 0} (value : Option T) → is_some value ≡ false → value �
 absent (Some v) e = absurd (true≢false e)
 absent None e = refl
 
--- a question's item states one statement, its map is the bit of that kind, and whether this holds is what is asked
-pub question_alone : {s : List ℕ} {n : ℕ} {c next : Cursor} (x : Item) → Reads Place.Question s n c x next
-    → (statements_of x ≡ statement_of x ∷ []) × (get_or s c.at 0 ≡ bit_of (statement_of x))
-    × (query_of (question_of x) ≡ holds (statement_of x))
+-- a question's item states one statement, its map is the bit of that kind, and whether this holds is what is asked; or it
+-- states nothing, its map is 16, and its path is what is asked
+pub data AsksOne (s : List ℕ) (c : Cursor) (x : Item) : Type 0 where
+  statement : statements_of x ≡ statement_of x ∷ [] → get_or s c.at 0 ≡ bit_of (statement_of x)
+      → asks s x ≡ holds (statement_of x) → AsksOne s c x
+  path : (p : Path) → statements_of x ≡ [] → get_or s c.at 0 ≡ 16
+      → asks s x ≡ has_path x.subject (features_at p.count s p.first) → AsksOne s c x
+
+pub question_alone : {s : List ℕ} {n : ℕ} {c next : Cursor} (x : Item) → Reads Place.Question s n c x next → AsksOne s c x
 unfolding statements_of statement_of question_of has same
 question_alone x r =
     let p₁ = absent x.target in
     let p₂ = absent x.partner in
     let p₄ = absent x.edge in
     let p₈ = absent x.label in
+    let p₁₆ = absent x.path in
     one_bit r.map r.lawful
     (λ m. there x.target (rw m at r.has_target) λ v e.
-    rw (e, p₂ (rw m at r.has_partner), p₄ (rw m at r.has_edge), p₈ (rw m at r.has_label)) (refl, r.map_is ∙ m, refl))
+    rw (e, p₂ (rw m at r.has_partner), p₄ (rw m at r.has_edge), p₈ (rw m at r.has_label), p₁₆ (rw m at r.has_path))
+    (AsksOne.statement refl (r.map_is ∙ m) refl))
     (λ m. there x.partner (rw m at r.has_partner) λ v e.
-    rw (p₁ (rw m at r.has_target), e, p₄ (rw m at r.has_edge), p₈ (rw m at r.has_label)) (refl, r.map_is ∙ m, refl))
+    rw (p₁ (rw m at r.has_target), e, p₄ (rw m at r.has_edge), p₈ (rw m at r.has_label), p₁₆ (rw m at r.has_path))
+    (AsksOne.statement refl (r.map_is ∙ m) refl))
     (λ m. there x.edge (rw m at r.has_edge) λ v e.
-    rw (p₁ (rw m at r.has_target), p₂ (rw m at r.has_partner), e, p₈ (rw m at r.has_label)) (refl, r.map_is ∙ m, refl))
+    rw (p₁ (rw m at r.has_target), p₂ (rw m at r.has_partner), e, p₈ (rw m at r.has_label), p₁₆ (rw m at r.has_path))
+    (AsksOne.statement refl (r.map_is ∙ m) refl))
     (λ m. there x.label (rw m at r.has_label) λ v e.
-    rw (p₁ (rw m at r.has_target), p₂ (rw m at r.has_partner), p₄ (rw m at r.has_edge), e) (refl, r.map_is ∙ m, refl))
+    rw (p₁ (rw m at r.has_target), p₂ (rw m at r.has_partner), p₄ (rw m at r.has_edge), e, p₁₆ (rw m at r.has_path))
+    (AsksOne.statement refl (r.map_is ∙ m) refl))
+    (λ m. there x.path (rw m at r.has_path) λ v e.
+    rw (p₁ (rw m at r.has_target), p₂ (rw m at r.has_partner), p₄ (rw m at r.has_edge), p₈ (rw m at r.has_label), e)
+    (AsksOne.path v refl (r.map_is ∙ m) refl))
 
 module _ (s : List ℕ) (n : ℕ) where
   records_name : (k : ℕ) (c : Cursor) → Of (λ xs. AllName n (all_statements xs)) (items_of k Place.Record s n c)
-  unfolding items_of
+  unfolding run_of
   records_name zero c = record { holds = tt }
   records_name (suc k) c =
       after_field (item_spans Place.Record s n c) (λ q h. record { holds = tt }) λ x next r.
       record { holds = (both (record_names x r) (record { holds = (records_name k next).holds })).holds }
 
-  questions_name : (k : ℕ) (c : Cursor) → Of (λ xs. AllAsk n (map asks xs)) (items_of k Place.Question s n c)
-  unfolding items_of question_of
+  questions_name : (k : ℕ) (c : Cursor) → Of (λ xs. AllAsk n (map (asks s) xs)) (items_of k Place.Question s n c)
+  unfolding run_of
   questions_name zero c = record { holds = tt }
   questions_name (suc k) c =
       after_field (item_spans Place.Question s n c) (λ q h. record { holds = tt }) λ x next r.
-      record { holds = ((statement_names x r).holds, (questions_name k next).holds) }
+      record { holds = ((question_names x r).holds, (questions_name k next).holds) }
 
 pub sheet_named : (s : List ℕ) → Named (sheet_of s)
 unfolding sheet_of sheet_at

@@ -9,10 +9,10 @@ use Rattle.fields.specs.declared.refusals.Refusal.{Refusal}
 use Rattle.fields.specs.Limits.{most_variables}
 use Rattle.fields.proofs.Chains.{told}
 use Rattle.sheet.specs.Headers.{reply_count}
-use Rattle.items.specs.Items.{items_of}
+use Rattle.items.specs.Items.{item_at, items_of}
 use Rattle.items.specs.Statements.{AllName}
 use Rattle.items.specs.Questions.{AllAsk}
-use Rattle.items.proofs.Runs.{run_count}
+use Rattle.fields.proofs.Runs.{run_count}
 use Rattle.sheet.specs.declared.whole.Accepted.{Accepted}
 use Rattle.sheet.specs.Sheets.{Named, read_sheet, longest, asks, sheet_at, sheet_of}
 use Rattle.sheet.specs.Told.{nothing, told_of}
@@ -61,7 +61,7 @@ module _ (s : List ℕ) (a : Accepted) (e : read_sheet s ≡ Ok a) where
   unfolding sheet_of sheet_at
   asked_count =
       let items = items_of a.header.questions Place.Question s a.header.variables a.asked in
-      rw e (length-map items asks ∙ run_count Place.Question s _ _ a.asked _ accepted_read.questions_end)
+      rw e (length-map items (asks s) ∙ run_count (item_at Place.Question s a.header.variables) _ a.asked _ accepted_read.questions_end)
 
   -- so as many as it gets replies
   pub asked_replies : length (sheet_of s).asked ≡ reply_count a.header

@@ -2,5 +2,6 @@
 pub mod Headers
 pub mod Told
 pub mod Sheets
+pub mod Numbered
 pub mod Parts
 pub mod Readings

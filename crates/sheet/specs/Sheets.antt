@@ -47,16 +47,16 @@ abbrev pub all_statements : List Item → List Statement
 all_statements [] = []
 all_statements (x ∷ xs) = statements_of x ++ all_statements xs
 
--- what the questions of a run of items ask
-abbrev pub asks : Item → Query
-asks x = query_of (question_of x)
+-- what a question of a sheet asks, of its item
+abbrev pub asks : List ℕ → Item → Query
+asks s x = query_of s (question_of x)
 
 unfoldable pub sheet_at : List ℕ → Accepted → Sheet
 sheet_at s a =
     let h = a.header in
     sheet h.variables
     (all_statements (items_of h.records Place.Record s h.variables h.first))
-    (map asks (items_of h.questions Place.Question s h.variables a.asked))
+    (map (asks s) (items_of h.questions Place.Question s h.variables a.asked))
 
 -- of a refused list of bytes: no variable, no statement, no question
 unfoldable pub sheet_of : List ℕ → Sheet

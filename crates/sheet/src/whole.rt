@@ -6,8 +6,8 @@ use crate::headers::{Header, read_header};
 use fields::{Cursor, Fault, MOST_ITEMS, Place, Refusal};
 use items::items_end;
 
-// How many bytes the longest sheet has: 6 of its header, 9 of each record, 5 of each question.
-pub const LONGEST_SHEET: usize = 6 + MOST_ITEMS * (9 + 5);
+// How many bytes the longest sheet has: 6 of its header, 9 of each record, 19 of each question.
+pub const LONGEST_SHEET: usize = 6 + MOST_ITEMS * (9 + 19);
 
 // An accepted sheet: its header, and where its questions start.
 #[derive(Clone, Copy, Debug, PartialEq, Eq)]
