@@ -14,6 +14,8 @@ use Rattle.rules.specs.Tables as Tables
 use Rattle.rules.specs.Derived as Derived
 use Rattle.rules.specs.Clashes as Clashes
 use Rattle.rules.specs.Support as Support
+use Rattle.rules.specs.Paths as Reached
+use Rattle.items.specs.Paths as Paths
 use Rattle.rules.specs.Verdicts as Verdicts
 use Rattle.rules.specs.Roots as Roots
 use Rattle.rules.specs.Replies as Replies
@@ -22,10 +24,10 @@ use Rattle.rules.specs.Cases.{table, worked, counts_of, labels_from, AllWorked, 
 pub table_holds : AllWorked table
 unfolding table worked counts_of labels_from ◌and◌ ◌or◌ Tests.less Tests.same Tests.pick Tests.has
     Refusals.ends Refusals.bad_header_map Refusals.bad_variable_count Refusals.bad_count Refusals.several_bits
-    Refusals.bad_item_map Refusals.bad_variable Refusals.remain
-    Fields.word Fields.byte_field Fields.word_field Fields.variable_field Fields.field_if
+    Refusals.bad_item_map Refusals.bad_path_length Refusals.bad_variable Refusals.remain
+    Fields.word Fields.byte_field Fields.word_field Fields.variable_field Fields.field_if Fields.run_end Fields.run_of
     Headers.header_map Headers.variable_count Headers.count_field Headers.count_if Headers.header_of
-    Items.map_field Items.edge_field Items.label_field Items.fields_at Items.item_at Items.items_end Items.items_of
+    Items.map_field Items.edge_field Items.label_field Items.fields_at Items.item_at Paths.count_field Paths.path_field
     Statements.statements_of Statements.statement_of Questions.question_of Sheets.body_of Sheets.read_sheet Sheets.sheet_at Sheets.sheet_of
     Stated.any Stated.any_below Stated.first_label
     Stated.some_ordering Stated.some_compatibility Stated.some_selection Stated.some_labelling
@@ -34,7 +36,7 @@ unfolding table worked counts_of labels_from ◌and◌ ◌or◌ Tests.less Tests
     Derived.is_stated Derived.passes Derived.turns Derived.descends Derived.round Derived.rounds Derived.derived
     Clashes.labels_differ Clashes.clashes_at Clashes.clash_in_row Clashes.clash_in_rows Clashes.clash_of Clashes.clashes
     Support.under_child Support.over_child Support.under_label Support.supported
-    Verdicts.verdict_of Roots.label_below Roots.root_label Replies.reply_by Replies.replies_of
+    Verdicts.verdict_of Reached.step Reached.at_path Reached.path_supported Roots.label_at Roots.path_label Replies.reply_by Replies.replies_of
 table_holds =
     refl next  -- C1
     refl next  -- C2
@@ -58,4 +60,5 @@ table_holds =
     refl next  -- the least of two columns
     refl next  -- a label up by F2
     refl next  -- one label of two below
+    refl next  -- paths
     done

@@ -3,7 +3,7 @@ use mathlib.Core.Bool.{Bool, true, false}
 use mathlib.Core.Logic.{◌↔◌}
 use mathlib.Core.Path.{◌≡◌, refl}
 use Rattle.fields.specs.Tests.{pick}
-use Rattle.items.specs.Questions.{Query, holds}
+use Rattle.items.specs.Questions.{Query}
 use Rattle.items.specs.Statements.{AllName}
 use Rattle.sheet.specs.Sheets.{Sheet}
 use Rattle.rules.specs.declared.replies.Reply.{Reply}
@@ -38,7 +38,7 @@ decided_by a b = record { always = always_by a b; never = never_by a b; undecide
 
 pub replied : (s : Sheet) (q : Query) → Replied s q
 unfolding reply_by
-replied s (holds x) = decided_by _ _
+replied s q = decided_by _ _
 
 -- Demand 2
 pub demand_2 : (s : Sheet) → AllName s.n s.stated → Demand2 s

@@ -15,6 +15,7 @@ pub mod Rules
 pub mod Rounds
 pub mod Derived
 pub mod Clashing
+pub mod Paths
 pub mod Roots
 pub mod Demand
 pub mod Bytes

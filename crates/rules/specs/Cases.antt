@@ -151,6 +151,11 @@ table =
     ∷ row (3 ∷ 3 ∷ 0 ∷ 4
     ∷ 8 ∷ 0 ∷ 0 ∷ 5 ∷ 8 ∷ 1 ∷ 0 ∷ 5 ∷ 1 ∷ 0 ∷ 2 ∷ 1 ∷ 1 ∷ 2 ∷ [])
     3 (consistent 5 9) (some 5 ∷ some 5 ∷ some 5 ∷ []) []
+    -- paths come up from what is below, by shared children: 0[1]1, 0 ≤ 2, 1[2]1; asked 2.1, 2.1.2.2, 2.2, 1.1
+    ∷ row (7 ∷ 3 ∷ 0 ∷ 3 ∷ 0 ∷ 4
+    ∷ 4 ∷ 0 ∷ 0 ∷ 1 ∷ 1 ∷ 1 ∷ 0 ∷ 2 ∷ 4 ∷ 1 ∷ 0 ∷ 2 ∷ 1
+    ∷ 16 ∷ 2 ∷ 1 ∷ 0 ∷ 1 ∷ 16 ∷ 2 ∷ 3 ∷ 0 ∷ 1 ∷ 0 ∷ 2 ∷ 0 ∷ 2 ∷ 16 ∷ 2 ∷ 1 ∷ 0 ∷ 2 ∷ 16 ∷ 1 ∷ 1 ∷ 0 ∷ 1 ∷ [])
+    3 (consistent 4 5) (none ∷ none ∷ none ∷ []) (0 ∷ 0 ∷ 2 ∷ 2 ∷ [])
     ∷ []
 
 -- the definitions give each row from its bytes

@@ -2,7 +2,7 @@
 -- support and trial.
 use Rattle.std.specs.Prelude.{ℕ, ◌<◌, Bool, true, false, List, None, Some, ◌↔◌, ◌≡◌}
 use Rattle.items.specs.declared.items.Statement.{Statement}
-use Rattle.items.specs.Questions.{Query, holds}
+use Rattle.items.specs.Questions.{Query}
 use Rattle.sheet.specs.Sheets.{Sheet}
 use Rattle.rules.specs.declared.replies.Reply.{Reply}
 use Rattle.rules.specs.declared.kinds.Kind.{Kind}
@@ -10,7 +10,7 @@ use Rattle.rules.specs.Facts.{Relation, Holds, Into, Within, Closed}
 use Rattle.rules.specs.Tables.{Shape}
 use Rattle.rules.specs.Derived.{derived, facts_of}
 use Rattle.rules.specs.Clashes.{clash_between, clashes_at, clash_of}
-use Rattle.rules.specs.Replies.{supports, fails_with, reply_to}
+use Rattle.rules.specs.Replies.{follows, tried, fails_with, reply_to}
 
 -- r is the smallest closed set of facts among those that a test gives
 pub record Derives (n : ℕ) (st : List Statement) (r : Relation) : Type 0 where
@@ -35,9 +35,9 @@ pub record Decided (support trial : Bool) (r : Reply) : Type 0 where
   pub never : (r ≡ Reply.Never) ↔ ((support ≡ false) × (trial ≡ true))
   pub undecided : (r ≡ Reply.Open) ↔ ((support ≡ false) × (trial ≡ false))
 
--- whether a statement holds is decided by its support, and by the trial of the sheet that states it too
+-- what is asked is decided by its support, and by the trial of the sheet that states it too
 abbrev pub Replied : Sheet → Query → Type 0
-Replied s (holds x) = Decided (supports s x) (fails_with s x) (reply_to s (holds x))
+Replied s q = Decided (follows s q) (tried (fails_with s) q) (reply_to s q)
 
 pub record Demand2 (s : Sheet) : Type 0 where
   pub derives : Derives s.n s.stated (facts_of s.stated s.n)

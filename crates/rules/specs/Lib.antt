@@ -1,4 +1,4 @@
--- Facts that follow from the statements of a sheet, clash, labels at roots, support and replies.
+-- Facts that follow from the statements of a sheet, clash, paths, labels at paths, support and replies.
 pub mod Connectives
 pub mod Stated
 pub mod Facts
@@ -6,6 +6,7 @@ pub mod Tables
 pub mod Derived
 pub mod Clashes
 pub mod Verdicts
+pub mod Paths
 pub mod Roots
 pub mod Support
 pub mod Replies

@@ -1,14 +1,15 @@
 -- Replies to questions.
-use Rattle.std.specs.Prelude.{◌≡◌, ℕ, ◌<◌, Bool, List, [], ◌∷◌, ◌++◌, map, Result, MatchResult}
+use Rattle.std.specs.Prelude.{◌≡◌, ℕ, ◌<◌, Bool, List, [], ◌∷◌, ◌++◌, map, false, Result, MatchResult}
 use Rattle.fields.specs.Tests.{pick}
 use Rattle.items.specs.declared.items.Statement.{Statement}
-use Rattle.items.specs.Questions.{Query, holds}
+use Rattle.items.specs.Questions.{Query, holds, has_path}
 use Rattle.sheet.specs.Sheets.{Sheet}
 use Rattle.rules.specs.declared.replies.Reply.{Reply}
 use Rattle.rules.specs.declared.replies.NoReply.{NoReply}
 use Rattle.rules.specs.Derived.{facts_of}
 use Rattle.rules.specs.Clashes.{clashes}
 use Rattle.rules.specs.Support.{supported}
+use Rattle.rules.specs.Paths.{path_supported}
 
 -- what its records state clashes; other ways to fail join here
 abbrev pub fails : Sheet → Bool
@@ -22,9 +23,19 @@ with_statement s x = record { n = s.n; stated = s.stated ++ (x ∷ []); asked = 
 abbrev pub supports : Sheet → Statement → Bool
 supports s x = supported s.stated (facts_of s.stated s.n) x
 
+-- what is asked is supported
+abbrev pub follows : Sheet → Query → Bool
+follows s (holds x) = supports s x
+follows s (has_path i p) = path_supported s.n s.stated (facts_of s.stated s.n) i.0 p
+
+-- what is asked fails by a trial of a statement: a path never fails, since any can be added
+abbrev pub tried : (Statement → Bool) → Query → Bool
+tried trial (holds x) = trial x
+tried trial (has_path i p) = false
+
 -- always by support, else never by a trial, else open
 unfoldable pub reply_by : Sheet → (Statement → Bool) → Query → Reply
-reply_by s trial (holds x) = pick (supports s x) Reply.Always (pick (trial x) Reply.Never Reply.Open)
+reply_by s trial q = pick (follows s q) Reply.Always (pick (tried trial q) Reply.Never Reply.Open)
 
 -- the trial: the sheet that states x too fails
 abbrev pub fails_with : Sheet → Statement → Bool

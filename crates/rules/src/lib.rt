@@ -1,5 +1,5 @@
-// Rules: the facts that statements give by F1 to F4, the clash of F5, support and replies, as definitions with their
-// laws.
+// Rules: the facts that statements give by F1 to F4, the clash of F5, the variables that a path leads to, support and
+// replies, as definitions with their laws.
 #![tactic(auto)]
 
 mod clashes;

@@ -1,5 +1,5 @@
 -- For every list of bytes that the reader accepts, demands 2 and 3 hold of its sheet.
-use Prim.Native.Nat.{ℕ}
+use Prim.Native.Nat.{ℕ, ◌<◌}
 use Rattle.std.specs.Prelude.{Ok}
 use mathlib.Core.Bool.{true, false}
 use mathlib.Core.List.{List}
@@ -10,14 +10,16 @@ use Rattle.items.specs.Questions.{holds, Asks}
 use Rattle.items.specs.Statements.{All, Names}
 use Rattle.sheet.specs.declared.whole.Accepted.{Accepted}
 use Rattle.sheet.specs.Sheets.{Sheet, read_sheet, sheet_of, sheet_at}
-use Rattle.sheet.proofs.Theorems.{accepted_sheet, accepted_names}
+use Rattle.sheet.proofs.Theorems.{accepted_sheet, accepted_names, names_below}
 use Rattle.rules.specs.declared.replies.Reply.{Reply}
 use Rattle.rules.specs.Demand.{Demand2, Smallest}
 use Rattle.rules.specs.Replies.{fails, fails_with, reply_to}
 use Rattle.rules.proofs.Demand as Facts
 use Rattle.rules.proofs.Lists.{all_map}
 use Rattle.trees.specs.Assignments.{Counts}
-use Rattle.trees.specs.Demand.{Answers, Demand3}
+use Rattle.trees.specs.Demand.{Met, Some, Answers, Demand3}
+use Rattle.trees.specs.Trees.{Present, Path}
+use Rattle.trees.proofs.Independence.{one_with_path}
 use Rattle.trees.proofs.Meaning.{exactly, never_by_trial}
 
 module _ (b : List ℕ) (a : Accepted) (accepted : read_sheet b ≡ Ok a) where
@@ -58,3 +60,9 @@ module _ (b : List ℕ) (a : Accepted) (accepted : read_sheet b ≡ Ok a) where
   pub sheet_asked : fails (sheet_of b) ≡ false
       → All (λ q. Answers (Counts (sheet_of b)) q (reply_to (sheet_of b) q)) (sheet_of b).asked
   sheet_asked = rw (accepted_sheet b a accepted) demand_3_asked
+
+  -- and where some assignment counts, some has the path that is asked for
+  pub sheet_possible : Met (Counts (sheet_of b)) → (i : ℕ) (p : Path) → i < (sheet_of b).n
+      → Some (Counts (sheet_of b)) λ v. Present (v i p)
+  sheet_possible met i p h =
+      one_with_path (sheet_of b) (names_below b).stated (sheet_3.consistent.1 met) i h p

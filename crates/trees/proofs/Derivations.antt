@@ -36,7 +36,7 @@ module _ (n : ℕ) (st : List Statement) (fit : AllName n st) where
   from_fact kind i j p = either_second (same i j) p
 
   -- of variables nothing is added
-  to_fact : (kind : Kind) (i j : ℕ) → i < n → Holds related kind i j → Holds (facts_of st n) kind i j
+  pub to_fact : (kind : Kind) (i j : ℕ) → i < n → Holds related kind i j → Holds (facts_of st n) kind i j
   unfolding self_or
   to_fact kind i j h p =
       either_of _ _ p

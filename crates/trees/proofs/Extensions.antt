@@ -1,4 +1,4 @@
--- Extensions of a closed structure: what every step of a saturation keeps.
+-- Extensions of a closed structure: what every step of a saturation keeps, and their least solutions.
 use Prim.Native.Nat.{ℕ, ◌≤◌, ◌<◌}
 use mathlib.Core.Bool.{true}
 use mathlib.Core.List.{List}
@@ -10,8 +10,12 @@ use Rattle.rules.specs.declared.kinds.Kind.{Kind}
 use Rattle.rules.specs.Facts.{Relation, Holds}
 use Rattle.rules.specs.Stated.{selection, Stated}
 use Rattle.rules.specs.Support.{supported}
-use Rattle.rules.proofs.Lists.{names_more}
+use Rattle.rules.proofs.Lists.{names_more, all_by}
+use Rattle.trees.specs.Trees.{IsTree}
+use Rattle.trees.specs.Assignments.{Assignment, Satisfies, SatisfiesAll}
 use Rattle.trees.proofs.Structures.{Laws}
+use Rattle.trees.proofs.Sets.{least}
+use Rattle.trees.proofs.Least.{least_tree, least_keeps}
 
 -- ranks of variables: no lower above, lower at a child; they bound the depth of least trees
 pub record Ranked (st : List Statement) (r : Relation) : Type 0 where
@@ -79,3 +83,14 @@ further E F =
       laws = F.laws;
       extends = extends_then E.extends F.extends;
     }
+
+-- the least solution of an extension: its trees are trees, and it meets the statements that are extended
+module _ {n : ℕ} {st : List Statement} {r : Relation} (E : Extension n st r) where
+  abbrev pub solution : Assignment
+  solution = least E.statements E.facts
+
+  pub solution_trees : (i : ℕ) → IsTree (solution i)
+  solution_trees i = least_tree E.laws i
+
+  pub solution_meets : SatisfiesAll solution st
+  solution_meets = all_by (Satisfies solution) st (λ x s. least_keeps E.laws x (E.extends.keeps s))

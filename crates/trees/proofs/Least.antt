@@ -10,13 +10,14 @@ use Rattle.rules.specs.Facts.{Relation, Holds}
 use Rattle.rules.specs.Support.{under_label}
 use Rattle.rules.specs.Stated.{selection, Stated}
 use Rattle.rules.proofs.Supported.{label_by}
-use Rattle.rules.proofs.Lists.{named, all_one, all_by}
+use Rattle.rules.proofs.Lists.{all_one}
 use Rattle.trees.specs.Assignments.{Satisfies, Assignment, SatisfiesAll}
-use Rattle.trees.specs.Trees.{labelled, Present, Path, Tree, IsTree, Below, Compatible, Child, Labelled}
-use Rattle.trees.proofs.Structures.{descends, one_label, through, Laws, left_variable, compatible_below}
-use Rattle.trees.proofs.Nodes.{both_below, child_below, related_through}
-use Rattle.trees.proofs.Sets.{In, step, walk, least, Inside, Together, in_one, one_in, in_step, step_in, in_root}
+use Rattle.trees.specs.Trees.{labelled, Present, Path, IsTree, Below, Compatible, Child, Labelled}
+use Rattle.trees.proofs.Structures.{descends, one_label, through, Laws, compatible_below}
+use Rattle.trees.proofs.Nodes.{both_below}
+use Rattle.trees.proofs.Sets.{step, walk, least, Inside, Together, in_one, one_in, in_step, step_in, in_root}
 use Rattle.trees.proofs.Sets.{root_in, root_label, label_root}
+use Rattle.trees.proofs.Paths.{path_under, least_path, least_label_at}
 
 module _ {n : ℕ} {st : List Statement} {r : Relation} (L : Laws n st r) where
   step_inside : (f : ℕ) (set other : List ℕ) → Inside st r set other
@@ -109,9 +110,6 @@ module _ {n : ℕ} {st : List Statement} {r : Relation} (L : Laws n st r) where
   least_keeps (Statement.Labelling i a) s =
       label_root L (i.0 ∷ []) (self_together i.0) s (in_one L (L.self Kind.Ordered i.0))
 
-  pub least_meets : SatisfiesAll (least st r) st
-  least_meets = all_by (Satisfies (least st r)) st least_keeps
-
   -- it has only labels that are supported
   pub least_label : (i a : ℕ) → Labelled (least st r i) a → under_label st r i a ≡ true
   least_label i a e = root_label L (i ∷ []) e (λ k s u. one_in L u (λ p. label_by r s p))
@@ -119,29 +117,13 @@ module _ {n : ℕ} {st : List Statement} {r : Relation} (L : Laws n st r) where
   -- an assignment that meets the statements and is true to the order has all of the least solution
   module _ (v : Assignment) (trees : (i : ℕ) → i < n → IsTree (v i)) (kept : SatisfiesAll v st)
       (true_to : (i j : ℕ) → Holds r Kind.Ordered i j → Below (v i) (v j)) where
-    -- each variable of the set has a tree below t
-    abbrev Under : List ℕ → Tree → Type 0
-    Under set t = (k : ℕ) → In st r k set → (k < n) × Below (v k) t
-
-    step_under : (f : ℕ) (set : List ℕ) (t : Tree) → Under set t → Under (step st r f set) (λ p. t (f ∷ p))
-    step_under f set t h k u =
-        step_in L u λ k' m s w p. (
-          left_variable L Kind.Ordered p (named n st L.fit s).1,
-          related_through Kind.Ordered (v k) (v m) _ (true_to k m p)
-              (child_below (all_one (Satisfies v) st kept s) (h k' w).1),
-        )
-
-    walk_under : (p : Path) (set : List ℕ) (t : Tree) → Under set t
-        → (Present (walk st r p set) → Present (t p)) × ((a : ℕ) → walk st r p set ≡ labelled a → t p ≡ labelled a)
-    walk_under [] set t h = (
-      λ x. root_in L set x (λ k u. (h k u).1.paths [] (trees k (h k u).0).root),
-      λ a e. root_label L set e (λ k s u. (h k u).1.labels [] a (all_one (Satisfies v) st kept s)),
-    )
-    walk_under (f ∷ p) set t h = walk_under p (step st r f set) (λ q. t (f ∷ q)) (step_under f set t h)
-
     pub least_under : (i : ℕ) → i < n → Below (least st r i) (v i)
     least_under i h =
-        record { paths = λ p. (walk_under p (i ∷ []) (v i) start).0; labels = λ p. (walk_under p (i ∷ []) (v i) start).1 }
-      where
-        start : Under (i ∷ []) (v i)
-        start k u = one_in L u (λ p. (left_variable L Kind.Ordered p h, true_to k i p))
+        record {
+          paths = λ p x.
+              least_path L r (λ k m b q. q) i h p x λ k b q.
+              (path_under st r v kept true_to i p k q).0 (trees k b).root;
+          labels = λ p a e.
+              least_label_at L r (λ k m b q. q) i h p a e λ k s q.
+              (path_under st r v kept true_to i p k q).1 a (all_one (Satisfies v) st kept s);
+        }

@@ -5,14 +5,16 @@ pub mod Structures
 -- the least solution of a structure
 pub mod Lookups
 pub mod Sets
+pub mod Paths
 pub mod Least
--- extensions of a structure: one child more
+-- extensions of a structure: one child more, and a chain of them
 pub mod Extensions
 pub mod Depth
 pub mod Child
 pub mod ChildLaws
 pub mod ChildSupport
 pub mod ChildRank
+pub mod Chain
 -- saturation: children for a list of questions, then marks
 pub mod Preparation
 pub mod Marks

@@ -1,29 +1,30 @@
--- Each answer exactly when it is true of trees: the clash, consistent, the label told of a variable, and the reply to a
--- question.
+-- Each answer exactly when it is true of trees: the clash, consistent, the label told of a variable at a path, and the
+-- reply to a question.
 use Prim.Native.Nat.{ℕ, ◌<◌}
-use mathlib.Core.Bool.{true, false}
+use mathlib.Core.Bool.{true, false, false≢true}
 use mathlib.Core.List.{[], ◌∷◌, ◌++◌}
 use mathlib.Core.Logic.{◌↔◌}
 use mathlib.Core.Option.{some}
 use mathlib.Core.Path.{◌≡◌, sym, ◌∙◌}
+use Rattle.std.proofs.lemmas.Bool.{both_ways}
 use Rattle.items.specs.declared.items.Statement.{Statement}
-use Rattle.items.specs.Questions.{Query, holds, Asks}
+use Rattle.items.specs.Questions.{Query, holds, has_path, Asks}
 use Rattle.items.specs.Statements.{Names, AllName}
 use Rattle.sheet.specs.Sheets.{Sheet}
 use Rattle.rules.specs.declared.replies.Reply.{Reply}
-use Rattle.rules.specs.Stated.{labelling}
 use Rattle.rules.specs.Clashes.{clashes}
-use Rattle.rules.specs.Roots.{root_label}
-use Rattle.rules.specs.Support.{supported}
-use Rattle.rules.specs.Replies.{fails, with_statement, supports, fails_with, reply_by, reply_to}
+use Rattle.rules.specs.Roots.{path_label}
+use Rattle.rules.specs.Replies.{fails, with_statement, supports, follows, tried, fails_with, reply_by, reply_to}
 use Rattle.rules.proofs.Logic.{decided}
 use Rattle.rules.proofs.Lists.{all_with, all_without}
-use Rattle.rules.proofs.Roots.{told_exactly, root_told}
-use Rattle.trees.specs.Assignments.{Satisfies, Meets, Counts}
-use Rattle.trees.specs.Demand.{Met, Unmet, RootIs, Answers, Tested, Demand3}
-use Rattle.trees.proofs.Answering.{Shows, tested_by, answers_by}
-use Rattle.trees.proofs.Independence.{least_of, least_of_meets, one_against_all}
-use Rattle.trees.proofs.Sound.{no_clash, true_supported}
+use Rattle.rules.proofs.Roots.{path_told}
+use Rattle.trees.specs.Trees.{Path}
+use Rattle.trees.specs.Assignments.{Satisfies, Keeps, Meets, Counts}
+use Rattle.trees.specs.Demand.{Met, Unmet, Every, LabelIs, Answers, Tested, Demand3}
+use Rattle.trees.proofs.Answering.{Shows, always_by, tested_by, answers_by}
+use Rattle.trees.proofs.Independence.{least_of, least_of_meets, least_supported, least_told, one_with_path}
+use Rattle.trees.proofs.Independence.{one_against_all}
+use Rattle.trees.proofs.Sound.{no_clash, true_supported, true_path, true_label}
 
 module _ (s : Sheet) (fit : AllName s.n s.stated) where
   -- where nothing clashes the least solution meets the sheet
@@ -33,9 +34,17 @@ module _ (s : Sheet) (fit : AllName s.n s.stated) where
   unmet : clashes s.stated s.n ≡ true → Unmet (Meets s)
   unmet e v m = no_clash s.n s.stated v m.kept e
 
-  -- what the support of a statement and its trial show
-  shows : fails s ≡ false → (x : Statement) → Names s.n x → Shows (Counts s) x (supports s x) (fails_with s x)
-  shows e x named =
+  -- what the support of a question and its trial show
+  shows : fails s ≡ false → (q : Query) → Asks s.n q → Shows (Counts s) q (follows s q) (tried (fails_with s) q)
+  shows e (has_path i p) named =
+      record {
+        always = λ a v m. true_path s.n s.stated v m.kept m.trees i.0 p a;
+        never = λ b. absurd (false≢true b);
+        keeping = λ b. one_with_path s fit e i.0 named p;
+        breaking = λ a.
+            (least_of s fit e, (least_of_meets s fit e, λ x. both_ways _ a (least_supported s fit e i.0 named p x)));
+      }
+  shows e (holds x) named =
       record {
         always = λ a v m. true_supported s.n s.stated v m.kept x a;
         never = λ b v m k. no_clash s.n (s.stated ++ (x ∷ [])) v (all_with (Satisfies v) s.stated x m.kept k) b;
@@ -53,21 +62,24 @@ module _ (s : Sheet) (fit : AllName s.n s.stated) where
 
   answers : fails s ≡ false → (q : Query) → Asks s.n q → Answers (Counts s) q (reply_to s q)
   unfolding reply_by
-  answers e (holds x) named = answers_by (shows e x named) (met e)
+  answers e q named = answers_by (shows e q named) (met e)
 
-  -- support and the trial are exact, each by itself
+  -- what is asked is supported exactly where all keep it
+  pub exactly_supported : fails s ≡ false → (q : Query) → Asks s.n q
+      → (follows s q ≡ true) ↔ Every (Counts s) λ v. Keeps v q
+  exactly_supported e q named = always_by (shows e q named)
+
+  -- of a statement support and the trial are exact, each by itself
   pub exactly_tested : fails s ≡ false → (x : Statement) → Names s.n x → Tested (Counts s) x (supports s x) (fails_with s x)
-  exactly_tested e x named = tested_by (shows e x named)
+  exactly_tested e x named = tested_by (shows e (holds x) named)
 
-  -- the label told of a variable is the one whose statement is supported
-  labels : fails s ≡ false → (i a : ℕ) → i < s.n → (root_label s i ≡ some a) ↔ RootIs (Counts s) i a
-  unfolding supported
-  labels e i a h =
-      let told = told_exactly s.n s.stated fit e i a in
-      let tested = (exactly_tested e (labelling i a) h).always in (
-        λ is. tested.0 (told.0 (sym (root_told s i e) ∙ is)),
-        λ every. root_told s i e ∙ told.1 (tested.1 every),
-      )
+  -- the label told at a path is the one that the least solution has there
+  labels : fails s ≡ false → (i : ℕ) (p : Path) (a : ℕ) → i < s.n
+      → (path_label s i p ≡ some a) ↔ LabelIs (Counts s) i p a
+  labels e i p a h = (
+    λ is v m. true_label s.n s.stated v m.kept i p a (sym (path_told s i p e) ∙ is),
+    λ every. path_told s i p e ∙ least_told s fit e i h p a (every (least_of s fit e) (least_of_meets s fit e)),
+  )
 
   -- demand 3
   pub exactly : Demand3 s

@@ -9,14 +9,13 @@ use Rattle.rules.specs.declared.kinds.Kind.{Kind}
 use Rattle.rules.specs.Facts.{Relation}
 use Rattle.rules.specs.Stated.{selection}
 use Rattle.rules.specs.Support.{supported}
-use Rattle.rules.proofs.Lists.{all_name_more, all_by, all_from}
-use Rattle.trees.specs.Assignments.{Satisfies, Assignment, SatisfiesAll, Falsifies, FalsifiesAll}
-use Rattle.trees.specs.Trees.{IsTree, Below, Child}
+use Rattle.rules.proofs.Lists.{all_name_more, all_from}
+use Rattle.trees.specs.Assignments.{Assignment, Falsifies, FalsifiesAll}
+use Rattle.trees.specs.Trees.{Below, Child}
 use Rattle.trees.proofs.Nodes.{related_self, related_children}
 use Rattle.trees.proofs.Structures.{Laws}
-use Rattle.trees.proofs.Sets.{least}
-use Rattle.trees.proofs.Least.{least_tree, least_keeps, least_label}
-use Rattle.trees.proofs.Extensions.{Ranked, Extension, further}
+use Rattle.trees.proofs.Least.{least_keeps, least_label}
+use Rattle.trees.proofs.Extensions.{Extension, further, solution}
 use Rattle.trees.proofs.Marks.{old_in}
 use Rattle.trees.proofs.Marked.{marked_laws, marked_extends, marked_extension}
 use Rattle.trees.proofs.Shown.{shown, shows_ordered, shows_compatible}
@@ -56,7 +55,7 @@ module _ {n : ℕ} {st : List Statement} {r : Relation} (L : Laws n st r) where
 -- the assignment is the least solution of an extension
 pub record Refutation (n : ℕ) (st : List Statement) (r : Relation) (qs : List Statement) : Type 0 where
   pub whole : Extension n st r
-  pub breaks_all : FalsifiesAll (least whole.statements whole.facts) qs
+  pub breaks_all : FalsifiesAll (solution whole) qs
 
 pub refute : {n : ℕ} {st : List Statement} {r : Relation} → Laws n st r → (qs : List Statement) → AllName n qs
     → NoneSupported st r qs → Refutation n st r qs
@@ -67,17 +66,3 @@ refute L qs h u =
       whole = further E (marked_extension E.laws);
       breaks_all = all_breaks E.laws qs (all_name_more E.extends.larger qs h) P.breakable;
     }
-
-module _ {n : ℕ} {st : List Statement} {r : Relation} {qs : List Statement} (R : Refutation n st r qs) where
-  abbrev pub refuting : Assignment
-  refuting = least R.whole.statements R.whole.facts
-
-  -- its trees are trees, it meets the statements, and it is ranked where the structure is
-  pub refuting_trees : (i : ℕ) → IsTree (refuting i)
-  refuting_trees i = least_tree R.whole.laws i
-
-  pub refuting_meets : SatisfiesAll refuting st
-  refuting_meets = all_by (Satisfies refuting) st (λ x s. least_keeps R.whole.laws x (R.whole.extends.keeps s))
-
-  pub refuting_ranked : Ranked st r → Ranked R.whole.statements R.whole.facts
-  refuting_ranked K = R.whole.extends.ranked K

@@ -1,7 +1,8 @@
 -- What is derived is true of every assignment that keeps the statements (Propositions 2 and 5).
-use Prim.Native.Nat.{ℕ}
+use Prim.Native.Nat.{ℕ, ◌<◌}
 use mathlib.Core.Bool.{true}
 use mathlib.Core.List.{List, [], ◌∷◌}
+use mathlib.Core.Option.{some}
 use mathlib.Core.Path.{◌≡◌}
 use Rattle.items.specs.declared.items.Statement.{Statement}
 use Rattle.rules.specs.declared.kinds.Kind.{Kind}
@@ -10,15 +11,20 @@ use Rattle.rules.specs.Stated.{selection, Stated}
 use Rattle.rules.specs.Derived.{facts_of}
 use Rattle.rules.specs.Clashes.{clashes_at, clashes}
 use Rattle.rules.specs.Support.{supported}
+use Rattle.rules.specs.Paths.{path_supported}
+use Rattle.rules.specs.Roots.{label_at}
 use Rattle.rules.proofs.Logic.{first_of_and, second_of_and}
 use Rattle.rules.proofs.Supported.{under_of, over_of, label_under}
 use Rattle.rules.proofs.Derived.{smallest}
 use Rattle.rules.proofs.Clashing.{clashing, differ_of}
 use Rattle.rules.proofs.Lists.{all_one}
-use Rattle.trees.specs.Trees.{Child}
+use Rattle.rules.proofs.Some.{below_one}
+use Rattle.rules.proofs.Roots.{told_from}
+use Rattle.trees.specs.Trees.{labelled, Present, Path, IsTree, Child}
 use Rattle.trees.specs.Assignments.{Assignment, Satisfies, SatisfiesAll}
 use Rattle.trees.proofs.Nodes.{Related, related_self, related_through, related_children, compatible_turned}
 use Rattle.trees.proofs.Nodes.{both_below, child_below, below_child}
+use Rattle.trees.proofs.Paths.{path_under}
 
 module _ (n : ℕ) (st : List Statement) (v : Assignment) (kept : SatisfiesAll v st) where
   keeps : {x : Statement} → Stated st x → Satisfies v x
@@ -78,3 +84,17 @@ module _ (n : ℕ) (st : List Statement) (v : Assignment) (kept : SatisfiesAll v
   true_supported (Statement.Labelling i a) p =
       label_under st (facts_of st n) i.0 a.0 p λ k s h.
       (true_fact Kind.Ordered k i.0 h).labels [] a.0 (keeps s)
+
+  -- a supported path is there, since the root of what it leads to is
+  pub true_path : ((i : ℕ) → i < n → IsTree (v i)) → (i : ℕ) (p : Path)
+      → path_supported n st (facts_of st n) i p ≡ true → Present (v i p)
+  unfolding path_supported
+  true_path trees i p a =
+      below_one n _ a λ k h q.
+      (path_under st (facts_of st n) v kept (true_fact Kind.Ordered) i p k q).0 (trees k h).root
+
+  -- and so is the label that is told of a path
+  pub true_label : (i : ℕ) (p : Path) (a : ℕ) → label_at st (facts_of st n) i p ≡ some a → v i p ≡ labelled a
+  true_label i p a e =
+      told_from st (facts_of st n) i p a e λ k s q.
+      (path_under st (facts_of st n) v kept (true_fact Kind.Ordered) i p k q).1 a (keeps s)

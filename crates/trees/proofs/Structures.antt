@@ -9,7 +9,7 @@ use Rattle.items.specs.Statements.{AllName}
 use Rattle.rules.specs.declared.kinds.Kind.{Kind}
 use Rattle.rules.specs.Facts.{Relation, Holds, Closed}
 use Rattle.rules.specs.Stated.{selection, labelling, Stated}
-use Rattle.rules.proofs.Roots.{compatible_under}
+use Rattle.rules.proofs.Paths.{compatible_under}
 
 -- the facts r are closed over n variables and F5 applies nowhere; every number is related to itself, and one that is no
 -- variable to no other

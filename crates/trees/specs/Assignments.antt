@@ -1,10 +1,10 @@
 -- Assignments of trees to variables: which meet a sheet, which keep or break a question, and which count.
 use Rattle.std.specs.Prelude.{ℕ, ◌<◌, List}
 use Rattle.items.specs.declared.items.Statement.{Statement}
-use Rattle.items.specs.Questions.{Query, holds}
+use Rattle.items.specs.Questions.{Query, holds, has_path}
 use Rattle.items.specs.Statements.{All}
 use Rattle.sheet.specs.Sheets.{Sheet}
-use Rattle.trees.specs.Trees.{Tree, IsTree, Below, Compatible, Child, Labelled}
+use Rattle.trees.specs.Trees.{Tree, IsTree, Present, Below, Compatible, Child, Labelled}
 
 abbrev pub Assignment : Type 0
 Assignment = ℕ → Tree
@@ -28,6 +28,7 @@ FalsifiesAll v xs = All (Falsifies v) xs
 -- what is asked holds for the trees, and the opposite
 abbrev pub Keeps : Assignment → Query → Type 0
 Keeps v (holds x) = Satisfies v x
+Keeps v (has_path i p) = Present (v i.0 p)
 
 abbrev pub Breaks : Assignment → Query → Type 0
 Breaks v q = Keeps v q → ⊥
