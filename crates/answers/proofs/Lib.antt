@@ -4,5 +4,6 @@ pub mod Ranges
 pub mod Firsts
 pub mod Clashed
 pub mod OneLabel
+pub mod LabelThere
 pub mod Below
 pub mod Shown

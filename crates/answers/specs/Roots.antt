@@ -1,5 +1,5 @@
 -- What is told of labels at roots, whatever statements, of which t has the facts, have these spreads of labels.
-use Rattle.std.specs.Prelude.{ℕ, ◌<◌, ◌≤◌, length, false, List, Option, None, ◌≡◌, get_or}
+use Rattle.std.specs.Prelude.{ℕ, ◌<◌, ◌≤◌, length, Bool, false, List, Option, None, ◌≡◌, get_or}
 use Rattle.fields.specs.declared.numbers.Label.{Label}
 use Rattle.fields.specs.Limits.{most_variables}
 use Rattle.fields.specs.Tests.{pick}
@@ -7,8 +7,6 @@ use Rattle.items.specs.declared.items.Statement.{Statement}
 use Rattle.items.specs.Statements.{AllName}
 use Rattle.items.specs.Questions.{Query}
 use Rattle.sheet.specs.Sheets.{sheet}
-use Rattle.rules.specs.declared.kinds.Kind.{Kind}
-use Rattle.rules.specs.Facts.{Relation}
 use Rattle.rules.specs.Tables.{facts}
 use Rattle.rules.specs.Derived.{derived}
 use Rattle.rules.specs.Clashes.{clashes}
@@ -19,9 +17,9 @@ use Rattle.labels.specs.Spreads.{spread_at, only_label}
 use Rattle.labels.specs.Roots.{label_in, root_at}
 use Rattle.labels.specs.Labels.{LabelsStand}
 
--- the one label of k, where k ≤ i
-abbrev pub label_from : Relation → List Spread → ℕ → ℕ → Option Label
-label_from r spreads i k = pick (r Kind.Ordered k i) (only_label (spread_at spreads k)) None
+-- the one label of k, where k is in a set
+abbrev pub label_from : (ℕ → Bool) → List Spread → ℕ → Option Label
+label_from set spreads k = pick (set k) (only_label (spread_at spreads k)) None
 
 -- that of i, where the statements are consistent
 pub record BelowTold (n : ℕ) (t : List ℕ) (spreads : List Spread) (i : ℕ) (r : Option Label) : Type 0 where

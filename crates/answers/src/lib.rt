@@ -7,6 +7,7 @@ mod counts;
 mod roots;
 mod support;
 
+pub use cells::has_fact;
 pub use clashes::{clash_of, label_clashes};
 pub use counts::count_facts;
 pub use roots::root_labels;

@@ -1,6 +1,7 @@
 // The labels that the roots of variables must have.
 ghost use Rattle.std.specs.Prelude.{◌<◌, ◌≡◌};
 ghost use Rattle.rules.specs.Tables.{facts};
+ghost use Rattle.rules.specs.declared.kinds.Kind.{Kind};
 ghost use Rattle.answers.specs.Roots.{label_from, BelowTold, Filling, RootsTold};
 
 use crate::cells::has_fact;
@@ -14,7 +15,7 @@ use table::Table;
 #[tactic(auto, unfolding(fields::specs::Tests::pick))]
 fn label_from(table: &Table, labels: &Labels, k: usize, i: usize) -> Option<Label>
     requires { (k < table.now.n) × (i < table.now.n) }
-    ensures { result ≡ label_from (facts table.now.n table.now.cells.now) labels.now.spreads i k }
+    ensures { result ≡ label_from (λ x. facts table.now.n table.now.cells.now Kind.Ordered x i) labels.now.spreads k }
 {
     if has_fact(table, Kind::Ordered, k, i) {
         labels.spreads[k].only()

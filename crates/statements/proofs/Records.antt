@@ -15,7 +15,7 @@ use Rattle.items.specs.declared.items.Item.{Item}
 use Rattle.items.specs.declared.items.Statement.{Statement}
 use Rattle.items.specs.Items.{item_at, items_end, items_of}
 use Rattle.items.specs.Statements.{Names, AllName, statements_of}
-use Rattle.items.proofs.Runs.{run_on, run_reads, items_over, items_on}
+use Rattle.fields.proofs.Runs.{run_on, run_reads, values_over, values_on}
 use Rattle.sheet.specs.Sheets.{accepted, all_statements, sheet_of, sheet_at}
 use Rattle.sheet.proofs.Theorems.{accepted_read, accepted_sheet, accepted_stated}
 use Rattle.rules.proofs.Lists.{all_split, all_name_more}
@@ -70,7 +70,7 @@ module _ {s : List ℕ} {n left : ℕ} {cursor : Cursor} {x : Lists} (g : Gather
   module _ {f : Field Item} (read : item_at Place.Record s n cursor ≡ Ok f) where
     split : (sheet_of s).stated
         ≡ g.done ++ (statements_of f.value ++ all_statements (items_of (left - 1) Place.Record s n f.next))
-    split = g.rest ∙ ap (λ y. g.done ++ all_statements y) (items_on Place.Record s n cursor left f more read)
+    split = g.rest ∙ ap (λ y. g.done ++ all_statements y) (values_on (item_at Place.Record s n) cursor left f more read)
 
     item_named : AllName n (statements_of f.value)
     item_named =
@@ -96,18 +96,18 @@ module _ {s : List ℕ} {n left : ℕ} {cursor : Cursor} {x : Lists} (g : Gather
           stand = p.stand n g.done item_named g.stand;
           rest = split ∙ sym (append_assoc g.done (statements_of f.value) _);
           end = g.end;
-          readable = sym (run_on Place.Record s n cursor left f more read) ∙ g.readable;
+          readable = sym (run_on (item_at Place.Record s n) cursor left f more read) ∙ g.readable;
           pairs_fit = omega (arith, more, g.pairs_fit, p.more_pairs);
           selections_room = omega (arith, more, g.selections_room, p.more_selections);
         }
 
   pub none_refused : {r : Refusal} → item_at Place.Record s n cursor ≡ Err r → ⊥
-  none_refused e = run_reads Place.Record s n cursor g.end left _ more g.readable e
+  none_refused e = run_reads (item_at Place.Record s n) cursor g.end left _ more g.readable e
 
 -- behind the last record
 pub gathers_end : {s : List ℕ} {n left : ℕ} {cursor : Cursor} {x : Lists} → Gathers s n left cursor x → left ≤ 0
     → Stand n (sheet_of s).stated x
 gathers_end {s} {n} {left} {cursor} g over =
-    let e = g.rest ∙ ap (λ y. g.done ++ all_statements y) (items_over Place.Record s n cursor left over)
+    let e = g.rest ∙ ap (λ y. g.done ++ all_statements y) (values_over (item_at Place.Record s n) cursor left over)
     ∙ append-nil g.done in
     rw e g.stand

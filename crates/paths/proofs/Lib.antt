@@ -1,0 +1,3 @@
+-- Laws of sets and walks.
+pub mod Children
+pub mod Walks

@@ -1,0 +1,2 @@
+-- Sets of variables as rows of bits.
+pub mod Rows
