@@ -2,10 +2,11 @@
 use Rattle.std.specs.Prelude.{ℕ, List, ◌≡◌}
 use Rattle.std.proofs.Math.Option.{some}
 use Rattle.items.specs.Questions.{Query}
+use Rattle.sheet.specs.Numbered.{question_in}
 use Rattle.sheet.specs.Sheets.{read_sheet, sheet_of}
 use Rattle.trees.specs.Assignments.{Keeps, Counts}
 use Rattle.trees.specs.Demand.{Met, Every}
-use Rattle.promise.specs.Promise.{IsAccepted, question_in}
+use Rattle.promise.specs.Promise.{IsAccepted}
 
 -- the bytes are a sheet, some assignment meets it, it has a question k, and every assignment that meets it keeps that
 pub record MayDrop (b : List ℕ) (k : ℕ) : Type 0 where

@@ -16,7 +16,7 @@ use Rattle.items.specs.declared.items.Item.{Item}
 use Rattle.items.specs.declared.items.Question.{Question}
 use Rattle.items.specs.Items.{item_at, items_end, items_of, question_at}
 use Rattle.items.specs.Questions.{Query, question_of, query_of, Asks, AllAsk}
-use Rattle.items.proofs.Runs.{run_on, run_reads, items_over, items_on}
+use Rattle.fields.proofs.Runs.{run_on, run_reads, values_over, values_on}
 use Rattle.sheet.specs.Headers.{reply_count}
 use Rattle.sheet.specs.declared.whole.Accepted.{Accepted}
 use Rattle.sheet.specs.Sheets.{asks, sheet_of, sheet_at}
@@ -36,7 +36,7 @@ pub record Answers (s : List ℕ) (n left : ℕ) (cursor : Cursor) (k : ℕ) (re
   pub named : AllAsk n (sheet_of s).asked
   pub done : List Query
   pub written : take k replies ≡ numbers_of s done
-  pub rest : (sheet_of s).asked ≡ done ++ map asks (items_of left Place.Question s n cursor)
+  pub rest : (sheet_of s).asked ≡ done ++ map (asks s) (items_of left Place.Question s n cursor)
   pub end : Cursor
   pub readable : items_end left Place.Question s n cursor ≡ Ok end
   pub room : k + left ≡ length replies
@@ -62,7 +62,7 @@ answers_start s a replies given =
     }
 
 -- a question that is read is the one that its item asks
-read_item : {C : Type 0} (s : List ℕ) (n : ℕ) (c : Cursor) (q : Field Question) → question_at s n c ≡ Ok q
+pub read_item : {C : Type 0} (s : List ℕ) (n : ℕ) (c : Cursor) (q : Field Question) → question_at s n c ≡ Ok q
     → ((x : Item) → item_at Place.Question s n c ≡ found x q.next → question_of x ≡ q.value → C) → C
 unfolding question_at
 read_item {C} s n c q e go = first (item_at Place.Question s n c) refl
@@ -81,19 +81,19 @@ module _ {s : List ℕ} {n left : ℕ} {cursor : Cursor} {k : ℕ} {replies : Li
     (more : 0 < left) where
   module _ {q : Field Question} (read : question_at s n cursor ≡ Ok q) where
     split : (sheet_of s).asked
-        ≡ g.done ++ (query_of q.value ∷ map asks (items_of (left - 1) Place.Question s n q.next))
+        ≡ g.done ++ (query_of s q.value ∷ map (asks s) (items_of (left - 1) Place.Question s n q.next))
     split =
         read_item s n cursor q read λ x i e.
         g.rest
-        ∙ ap (λ y. g.done ++ map asks y) (items_on Place.Question s n cursor left _ more i)
-        ∙ ap (λ y. g.done ++ (query_of y ∷ map asks (items_of (left - 1) Place.Question s n q.next))) e
+        ∙ ap (λ y. g.done ++ map (asks s) y) (values_on (item_at Place.Question s n) cursor left _ more i)
+        ∙ ap (λ y. g.done ++ (query_of s y ∷ map (asks s) (items_of (left - 1) Place.Question s n q.next))) e
 
-    pub question_named : Asks n (query_of q.value)
+    pub question_named : Asks n (query_of s q.value)
     question_named =
-        let rest = map asks (items_of (left - 1) Place.Question s n q.next) in
-        (all_split (Asks n) g.done (query_of q.value ∷ rest) (subst (AllAsk n) split g.named)).1.0
+        let rest = map (asks s) (items_of (left - 1) Place.Question s n q.next) in
+        (all_split (Asks n) g.done (query_of s q.value ∷ rest) (subst (AllAsk n) split g.named)).1.0
 
-    answers_next : {r : Reply} {v : ℕ} → r ≡ reply_to (sheet_of s) (query_of q.value) → v ≡ reply_number r
+    answers_next : {r : Reply} {v : ℕ} → r ≡ reply_to (sheet_of s) (query_of s q.value) → v ≡ reply_number r
         → Answers s n (left - 1) q.next (k + 1) (set replies k v)
     answers_next {r} {v} answer number =
         let size = g.room in
@@ -102,23 +102,23 @@ module _ {s : List ℕ} {n left : ℕ} {cursor : Cursor} {k : ℕ} {replies : Li
         record {
           variables = g.variables;
           named = g.named;
-          done = g.done ++ (query_of q.value ∷ []);
+          done = g.done ++ (query_of s q.value ∷ []);
           written =
               rw one_more (take-suc-set replies k v (omega arith))
               ∙ ap (λ y. take k replies ++ (y ∷ [])) is
-              ∙ ap (λ y. y ++ (reply_number (reply_to (sheet_of s) (query_of q.value)) ∷ [])) g.written
-              ∙ sym (map-append (λ y. reply_number (reply_to (sheet_of s) y)) g.done (query_of q.value ∷ []));
-          rest = split ∙ sym (append_assoc g.done (query_of q.value ∷ []) _);
+              ∙ ap (λ y. y ++ (reply_number (reply_to (sheet_of s) (query_of s q.value)) ∷ [])) g.written
+              ∙ sym (map-append (λ y. reply_number (reply_to (sheet_of s) y)) g.done (query_of s q.value ∷ []));
+          rest = split ∙ sym (append_assoc g.done (query_of s q.value ∷ []) _);
           end = g.end;
           readable =
               read_item s n cursor q read λ x i e.
-              sym (run_on Place.Question s n cursor left _ more i) ∙ g.readable;
+              sym (run_on (item_at Place.Question s n) cursor left _ more i) ∙ g.readable;
           room = omega (arith, size, length-set replies k v);
           few = omega (arith, g.few, more);
         }
 
     -- the same, with what is left counted otherwise
-    pub answers_on : {r : Reply} {v left' : ℕ} → left' ≡ left - 1 → r ≡ reply_to (sheet_of s) (query_of q.value)
+    pub answers_on : {r : Reply} {v left' : ℕ} → left' ≡ left - 1 → r ≡ reply_to (sheet_of s) (query_of s q.value)
         → v ≡ reply_number r → Answers s n left' q.next (k + 1) (set replies k v)
     answers_on same answer number = rw same (answers_next answer number)
 
@@ -130,7 +130,7 @@ module _ {s : List ℕ} {n left : ℕ} {cursor : Cursor} {k : ℕ} {replies : Li
       first (Ok x) i =
           let e' : found (question_of x.value) x.next ≡ Err r = rw i at e in
           cc
-      first (Err r') i = run_reads Place.Question s n cursor g.end left r' more g.readable i
+      first (Err r') i = run_reads (item_at Place.Question s n) cursor g.end left r' more g.readable i
 
 -- behind the last question
 pub answers_end : {s : List ℕ} {n left : ℕ} {cursor : Cursor} {k : ℕ} {replies : List ℕ}
@@ -138,7 +138,7 @@ pub answers_end : {s : List ℕ} {n left : ℕ} {cursor : Cursor} {k : ℕ} {rep
 unfolding replies_of
 answers_end {s} {n} {left} {cursor} {k} {replies} g over =
     let whole : k ≡ length replies = omega (arith, g.room, over) in
-    let all = g.rest ∙ ap (λ y. g.done ++ map asks y) (items_over Place.Question s n cursor left over)
+    let all = g.rest ∙ ap (λ y. g.done ++ map (asks s) y) (values_over (item_at Place.Question s n) cursor left over)
     ∙ append-nil g.done in
     sym (rw whole (take-length replies)) ∙ g.written ∙ ap (numbers_of s) (sym all)
     ∙ twice (sheet_of s).asked

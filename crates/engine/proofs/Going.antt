@@ -65,9 +65,9 @@ going_start s a g groups replies asked =
 -- one question
 module _ {s : List ℕ} {n : ℕ} {g g' : Growth} {groups groups' : Groups} {cursor : Cursor} {k : ℕ} {replies : List ℕ}
     (going : Going s n g g' groups groups' cursor k replies) (h : k < length replies) where
-  pub question_asks : {q : Field Question} → g.n ≡ n → question_at s n cursor ≡ Ok q → Asks g'.n (query_of q.value)
+  pub question_asks : {q : Field Question} → g.n ≡ n → question_at s n cursor ≡ Ok q → Asks g'.n (query_of s q.value)
   question_asks {q} sizes read =
-      subst (λ m. Asks m (query_of q.value)) (sym (going.restored.same.n ∙ sizes))
+      subst (λ m. Asks m (query_of s q.value)) (sym (going.restored.same.n ∙ sizes))
       (question_named going.answers (omega arith) read)
 
   pub going_refused : {r : Refusal} → question_at s n cursor ≡ Err r → ⊥
@@ -75,7 +75,7 @@ module _ {s : List ℕ} {n : ℕ} {g g' : Growth} {groups groups' : Groups} {cur
 
   pub going_next : {c : Closed} {g'' : Growth} {groups'' : Groups} {q : Field Question} {r : Reply} {v : ℕ} → g.n ≡ n
       → Held n c groups (sheet_of s).stated → question_at s n cursor ≡ Ok q
-      → ReplyTold g'.n (Held g'.n c groups') (query_of q.value) r → v ≡ reply_number r
+      → ReplyTold g'.n (Held g'.n c groups') (query_of s q.value) r → v ≡ reply_number r
       → Restored g' g'' groups' groups'' → Going s n g g'' groups groups'' q.next (k + 1) (set replies k v)
   going_next {v = v} sizes held read told number restored =
       record {

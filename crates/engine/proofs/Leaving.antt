@@ -20,7 +20,7 @@ use Rattle.rules.specs.Facts.{Relation}
 use Rattle.rules.specs.Derived.{facts_of}
 use Rattle.rules.specs.Tables.{table_bytes}
 use Rattle.rules.specs.Verdicts.{verdict_of}
-use Rattle.rules.specs.Roots.{told_by, root_label}
+use Rattle.rules.specs.Roots.{told_by, path_label, root_label}
 use Rattle.rules.proofs.Derived.{derived_bytes, derived_shape}
 use Rattle.rules.proofs.Tables.{table_length}
 use Rattle.labels.specs.declared.roots.RootLabels.{RootLabels}
@@ -65,7 +65,7 @@ roots_are {b} {h} {labels = labels} d stand told =
 -- by what a check leaves of a sheet that it tells to be consistent
 module _ {b : List ℕ} {o : Outcome} {facts : List ℕ} (left : Left b o facts) {c d : ℕ} (is : o ≡ Outcome.Consistent c d)
   where
-    accepted_left : {C : Type 0}
+    pub accepted_left : {C : Type 0}
         → ((a : Accepted) → read_sheet b ≡ Ok a → facts ≡ facts_after (sheet_of b) left.before → C) → C
     accepted_left {C} next = go left.judged refl
       where
@@ -126,7 +126,7 @@ pub all_where : {o : Outcome} {s : Sheet} {labels : RootLabels} {c d : ℕ} → 
     → RootsAre s labels → RootsBy o s labels
 all_where is roots = rw is record { are = roots.are }
 
-by_verdict : (v : Verdict) (n : ℕ) (r : Relation) (below : Option ℕ)
+pub by_verdict : (v : Verdict) (n : ℕ) (r : Relation) (below : Option ℕ)
     → label_where (outcome_by n r v) (told_by v below) ≡ told_by v below
 by_verdict Verdict.Consistent n r below = refl
 by_verdict (Verdict.Clash clash) n r below = refl
@@ -136,17 +136,17 @@ module _ (b : List ℕ) where
   told_where : (read : Result Accepted Refusal) (i : ℕ)
       → label_where (then_value read of_refusal λ a. sheet_outcome (sheet_of b)) (root_label (sheet_of b) i)
       ≡ label_told read (sheet_of b) i
-  unfolding label_told root_label
+  unfolding label_told path_label
   told_where (Err q) i = refl
   told_where (Ok a) i = by_verdict (verdict_of (sheet_of b)) _ _ _
 
 -- what a check leaves, and tells
 module _ {b facts work replies facts' work' replies' : List ℕ} {o : Outcome}
     (checked : Checked b facts work replies facts' work' replies' o) where
-  abbrev read : Result Accepted Refusal
+  abbrev pub read : Result Accepted Refusal
   read = judged b (length facts) (length work) (length replies)
 
-  reads : (a : Accepted) → read ≡ Ok a → read_sheet b ≡ Ok a
+  pub reads : (a : Accepted) → read ≡ Ok a → read_sheet b ≡ Ok a
   reads a e = (accepted_fits b (length facts) (length work) (length replies) a e).accepted
 
   pub left_by : Left b o facts'

@@ -2,3 +2,4 @@
 pub mod Replying
 pub mod Steps
 pub mod Roots
+pub mod Paths

@@ -34,7 +34,7 @@ pub(crate) fn reply_all(
         let Ok(question) = read_question(sheet, accepted.header.variables, cursor) else {
             return;
         };
-        *place = u8::from(reply(closed, growth, groups, question.value));
+        *place = u8::from(reply(sheet, closed, growth, groups, question.value));
         cursor = question.next;
     }
 }

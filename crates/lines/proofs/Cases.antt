@@ -57,6 +57,6 @@ unfolding outcome_line other_lines numeral digits_within
 clash_text = refl
 
 -- a byte behind the longest sheet
-pub refused_text : concat (lines_of 0 (Outcome.Refused Fault.Trailing 14342) (first []) []) ≡ codes "refused 7 14342\n"
+pub refused_text : concat (lines_of 0 (Outcome.Refused Fault.Trailing 28678) (first []) []) ≡ codes "refused 7 28678\n"
 unfolding outcome_line other_lines numeral digits_within
 refused_text = refl

@@ -24,7 +24,7 @@ use Rattle.rules.specs.Verdicts.{verdict_of}
 use Rattle.trees.specs.Assignments.{Counts}
 use Rattle.trees.specs.Demand.{Met, RootIs}
 use Rattle.trees.proofs.Demands.{sheet_3}
-use Rattle.promise.specs.Roots.{LabelMeans}
+use Rattle.promise.specs.Labels.{MustHave, LabelMeans}
 use Rattle.promise.proofs.Clashes.{between}
 use Rattle.promise.proofs.Told.{accepted_means}
 use Rattle.promise.proofs.Theorems.{label_exactly, dash_exactly}
@@ -69,8 +69,8 @@ module _ (b : List ℕ) {a : Accepted} (read : read_sheet b ≡ Ok a) (met : Met
           (omega (arith, long, variable)) (omega arith) (omega (arith, variable)))
           ∙ ap (var_line (root_label s)) one
 
-  means : LabelMeans (read_sheet b) s i (root_label s i)
-  means = accepted_means (a, read) (sheet_3 b a read) i
+  means : LabelMeans (MustHave (read_sheet b) s i []) (root_label s i)
+  means = accepted_means (a, read) (sheet_3 b a read) i []
 
   told_exactly : (told : Option ℕ) → (get_or (printed b) (1 + i) [] ≡ line (words i told)) ↔ (root_label (sheet_of b) i ≡ told)
   told_exactly told = (
@@ -81,9 +81,9 @@ module _ (b : List ℕ) {a : Accepted} (read : read_sheet b ≡ Ok a) (met : Met
   -- a label is printed exactly when every assignment meeting the sheet has it at the root of that variable,
   pub label_printed_exactly : (c : ℕ) → (get_or (printed b) (1 + i) [] ≡ line (codes "var" ∷ numeral i ∷ numeral c ∷ []))
       ↔ RootIs (Counts (sheet_of b)) i c
-  label_printed_exactly c = trans (told_exactly (some c)) (label_exactly means (a, read) met variable c)
+  label_printed_exactly c = trans (told_exactly (some c)) (label_exactly (a, read) met i [] variable means c)
 
   -- and a dash exactly when no label is common to them all
   pub dash_printed_exactly : (get_or (printed b) (1 + i) [] ≡ line (codes "var" ∷ numeral i ∷ codes "-" ∷ []))
       ↔ ((c : ℕ) → RootIs (Counts (sheet_of b)) i c → ⊥)
-  dash_printed_exactly = trans (told_exactly none) (dash_exactly means (a, read) met variable)
+  dash_printed_exactly = trans (told_exactly none) (dash_exactly (a, read) met i [] variable means)

@@ -2,7 +2,9 @@
 pub mod Shown
 pub mod Clashes
 pub mod Told
+pub mod Numbers
+pub mod Above
+pub mod WithLabel
 pub mod Theorems
 pub mod Buffers
-pub mod Numbers
 pub mod Beyond

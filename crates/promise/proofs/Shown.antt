@@ -4,32 +4,40 @@ use Prim.Native.Nat.{ℕ, zero, suc, ◌<◌}
 use lib.ListN.{length, get_or, length-map}
 use mathlib.Core.List.{List, [], ◌∷◌, ◌++◌, map}
 use mathlib.Core.Logic.{◌↔◌}
-use mathlib.Core.Option.{some}
+use mathlib.Core.Option.{some, some-injective}
 use mathlib.Core.Logic.Iff.{trans}
-use mathlib.Core.Path.{◌≡◌, refl, ap, subst, ◌∙◌}
+use mathlib.Core.Path.{◌≡◌, refl, sym, ap, subst, ◌∙◌}
 use native.Mathlib.Omega.{arith}
 use Rattle.std.proofs.lemmas.Slice.{drop-append-drop}
 use Rattle.fields.specs.declared.refusals.Fault.{Fault}
 use Rattle.fields.specs.declared.refusals.Refusal.{Refusal}
 use Rattle.fields.specs.Refusals.{number_of}
-use Rattle.items.specs.Questions.{Query, holds}
+use Rattle.fields.specs.declared.numbers.Variable.{Variable}
+use Rattle.items.specs.Questions.{Query, has_path, Asks}
 use Rattle.items.specs.Statements.{All}
 use Rattle.sheet.specs.declared.whole.Accepted.{Accepted}
-use Rattle.sheet.specs.Sheets.{Sheet, sheet_of}
+use Rattle.sheet.specs.Numbered.{question_in}
+use Rattle.sheet.specs.Sheets.{Sheet, read_sheet, sheet_of}
+use Rattle.sheet.proofs.Theorems.{names_below}
 use Rattle.rules.specs.declared.clashes.Clash.{Clash}
 use Rattle.rules.specs.declared.replies.Reply.{Reply}
 use Rattle.rules.specs.declared.verdicts.Verdict.{Verdict}
 use Rattle.rules.specs.Replies.{reply_number, reply_to, replies_of}
 use Rattle.rules.specs.Verdicts.{verdict_of}
 use Rattle.rules.proofs.Demand.{replied}
-use Rattle.trees.specs.Trees.{labelled, Tree, IsTree, Child, Labelled}
+use Rattle.trees.specs.Assignments.{Counts}
+use Rattle.trees.specs.Demand.{Met, Some}
+use Rattle.trees.specs.Trees.{labelled, Present, Path, Tree, IsTree, Child, Labelled}
+use Rattle.trees.proofs.Demands.{sheet_possible}
 use Rattle.outcomes.specs.declared.outcomes.Outcome.{Outcome}
 use Rattle.outcomes.specs.Judged.{judged}
 use Rattle.outcomes.specs.Outcomes.{packed, kind_in}
 use Rattle.outcomes.proofs.Judging.{refused_soon}
 use Rattle.outcomes.proofs.Packed.{kind_is, first_is, second_is}
 use Rattle.promise.specs.Checks.{sheet_outcome, of_refusal, outcome_of, over, where_consistent, Returned}
-use Rattle.promise.specs.Promise.{IsAccepted, IsRefused, question_in, RefusalTold, OneReplyEach, Supported}
+use Rattle.promise.specs.Labels.{MustHave}
+use Rattle.promise.specs.Paths.{MustHaveAsked}
+use Rattle.promise.specs.Promise.{IsAccepted, IsRefused, RefusalTold, OneReplyEach, Supported}
 
 -- an answer of one kind is not of another
 pub never_accepted : {r : Refusal} → IsAccepted (Err r) → ⊥
@@ -93,6 +101,7 @@ small_number Fault.VariableRange = omega arith
 small_number Fault.Trailing = omega arith
 small_number Fault.ShortTable = omega arith
 small_number Fault.ShortReplies = omega arith
+small_number Fault.PathLength = omega arith
 
 -- a byte for each question
 pub byte_each : (s : Sheet) → length (map reply_number (replies_of s)) ≡ length s.asked
@@ -100,7 +109,7 @@ unfolding replies_of
 byte_each s = length-map (map (reply_to s) s.asked) reply_number ∙ length-map s.asked (reply_to s)
 
 always_supported : (s : Sheet) (q : Query) → (reply_to s q ≡ Reply.Always) ↔ Supported s q
-always_supported s (holds x) = (replied s (holds x)).always
+always_supported s q = (replied s q).always
 
 -- the three cases of what is returned
 module _ {b facts work replies facts' work' replies' : List ℕ} {r : ℕ}
@@ -185,6 +194,23 @@ module _ {b facts work replies facts' work' replies' : List ℕ} {r : ℕ}
 
   pub refused_apart : (q : Refusal) → read ≡ Err q → IsAccepted read → ⊥
   refused_apart q e a = never_accepted (rw e at a)
+
+-- what has to be at the path that a question asks for has to be there
+pub same_must : {read : Result Accepted Refusal} {s : Sheet} {k a : ℕ} {i : Variable} {p : Path}
+    → question_in s.asked k ≡ some (has_path i p) → MustHaveAsked read s k a → MustHave read s i.0 p a
+same_must {read} {s} {k} {a} {i} {p} e m =
+    let same : has_path m.subject m.path ≡ has_path i p = some-injective _ _ (sym m.asked ∙ e) in
+    let subjects : m.subject ≡ i = cc in
+    let paths : m.path ≡ p = cc in
+    subst (λ q. MustHave read s i.0 q a) paths (subst (λ x. MustHave read s x.0 m.path a) subjects m.must)
+
+-- where some assignment counts, some has the path that a question asks for
+pub path_possible : (b : List ℕ) {read : Result Accepted Refusal} → ((a : Accepted) → read ≡ Ok a → read_sheet b ≡ Ok a)
+    → IsAccepted read → Met (Counts (sheet_of b)) → (k : ℕ) (i : Variable) (p : Path)
+    → question_in (sheet_of b).asked k ≡ some (has_path i p) → Some (Counts (sheet_of b)) λ v. Present (v i.0 p)
+path_possible b reads (a, e) met k i p asked =
+    sheet_possible b a (reads a e) met i.0 p
+    (at_question (Asks (sheet_of b).n) (sheet_of b).asked k (has_path i p) (names_below b).asked asked)
 
 -- a tree that is its own child at every feature, with the same label everywhere
 pub endless : (f a : ℕ) → (t : Tree) × (IsTree t × Child t f t × Labelled t a)

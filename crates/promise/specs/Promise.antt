@@ -1,16 +1,17 @@
 -- What the number that a check returns and the bytes that it leaves mean: demands 1 to 3, of any bytes and buffers.
-use Rattle.std.specs.Prelude.{ℕ, zero, suc, ◌<◌, true, length, get_or, take, drop, List, [], ◌∷◌, ◌↔◌, ◌≡◌, Result, Ok, Err}
-use Rattle.std.proofs.Math.Option.{Option, none, some}
+use Rattle.std.specs.Prelude.{ℕ, ◌<◌, true, length, get_or, take, drop, List, ◌↔◌, ◌≡◌, Result, Ok, Err}
+use Rattle.std.proofs.Math.Option.{some}
 use Rattle.fields.specs.declared.refusals.Refusal.{Refusal}
 use Rattle.fields.specs.Refusals.{number_of}
 use Rattle.sheet.specs.Headers.{size_for}
-use Rattle.items.specs.Questions.{Query, holds}
+use Rattle.items.specs.Questions.{Query}
 use Rattle.sheet.specs.declared.whole.Accepted.{Accepted}
+use Rattle.sheet.specs.Numbered.{question_in}
 use Rattle.sheet.specs.Sheets.{Sheet, sheet_of}
 use Rattle.rules.specs.Clashes.{clashes_at}
 use Rattle.rules.specs.Demand.{Derives, LeastClash}
 use Rattle.rules.specs.Derived.{facts_of}
-use Rattle.rules.specs.Replies.{supports}
+use Rattle.rules.specs.Replies.{follows}
 use Rattle.rules.specs.Tables.{table_bytes}
 use Rattle.trees.specs.Assignments.{Assignment, Keeps, Breaks, Meets, Counts}
 use Rattle.trees.specs.Demand.{Met, Unmet, Some, Every}
@@ -23,12 +24,6 @@ IsAccepted read = (a : Accepted) × (read ≡ Ok a)
 
 abbrev pub IsRefused : Result Accepted Refusal → Type 0
 IsRefused read = (r : Refusal) × (read ≡ Err r)
-
--- question k of a sheet
-abbrev pub question_in : List Query → ℕ → Option Query
-question_in [] k = none
-question_in (q ∷ qs) zero = some q
-question_in (q ∷ qs) (suc k) = question_in qs k
 
 -- the first bytes of a table hold exactly the facts that F1 to F4 derive: the smallest closed set
 pub record FactsTold (s : Sheet) (table : List ℕ) : Type 0 where
@@ -55,7 +50,7 @@ F5Applies s =
 
 -- what is asked is supported
 abbrev pub Supported : Sheet → Query → Type 0
-Supported s (holds x) = supports s x ≡ true
+Supported s q = follows s q ≡ true
 
 -- a reply byte is 0, 1 or 2 exactly when each of the assignments C keeps the question, each breaks it, or there are
 -- two, one of each

@@ -1,6 +1,7 @@
 -- One question after another has its reply.
 use Rattle.std.proofs.Common.{sym, arith}
 use Rattle.engine.proofs.Answered.{answers_end}
+use Rattle.engine.proofs.Reading.{question_read}
 use Rattle.engine.proofs.Going.{going_start, question_asks, going_refused, going_next}
 use Rattle.engine.proofs.sheets.reply_all.Goals as goal
 
@@ -10,6 +11,9 @@ loop-place-init c = going_start _ _ _ _ _ c.requires.asked
 pub reply-requires-clause-names : goal.reply-requires-clause-names
 reply-requires-clause-names c =
     question_asks c.loop-place.invariant (omega arith) c.requires.sizes (sym c.in-Ok.ensures)
+
+pub reply-requires-clause-read : goal.reply-requires-clause-read
+reply-requires-clause-read c = question_read _ _ _ (sym c.in-Ok.ensures)
 
 pub loop-place-preserved : goal.loop-place-preserved
 loop-place-preserved c =
