@@ -1,9 +1,9 @@
 //! What the sheets of each family state, and what is asked of them.
 
 use crate::numbers::Numbers;
-use crate::sheets::{Item, Said, Sheet};
+use crate::sheets::{Item, Path, Said, Sheet, LONGEST_PATH};
+use crate::stored::QUESTIONS;
 
-const QUESTIONS: usize = 1_024;
 const SELECTIONS: usize = 1_024;
 
 /// States it in the first record that can take it, else in a new one.
@@ -144,5 +144,32 @@ pub fn ask(numbers: &mut Numbers, sheet: &mut Sheet, features: usize) {
             2 => Said::Selected(i, numbers.below(features + 1) as u16, j),
             _ => Said::Labelled(numbers.below(4) as u16, i),
         });
+    }
+}
+
+/// So many features that lead from i to some variable, each by a selection of one that is below the last.
+fn way(numbers: &mut Numbers, sheet: &Sheet, table: &[u8], i: usize, length: usize) -> Vec<u16> {
+    let mut at = i;
+    let step = |_| {
+        let lower = sheet.records.iter().filter(|record| table[record.subject * sheet.n + at] & 1 == 1);
+        let (feature, child) = numbers.pick(&lower.filter_map(|record| record.selection).collect::<Vec<_>>());
+        at = child;
+        feature
+    };
+    (0..length).map(step).collect()
+}
+
+/// A feature that no sheet here states.
+const UNSTATED: u16 = u16::MAX;
+
+/// Questions for paths from any variables, half of them ways that are there, half such ways with an unstated feature.
+pub fn ask_paths(numbers: &mut Numbers, sheet: &mut Sheet, table: &[u8], shortest: usize) {
+    for _ in 0..QUESTIONS {
+        let (i, length) = (numbers.below(sheet.n), numbers.between(shortest, LONGEST_PATH));
+        let mut features = way(numbers, sheet, table, i, length);
+        if numbers.once_in(2) {
+            features[numbers.below(length)] = UNSTATED;
+        }
+        sheet.ask(Said::Reached(i, Path::of(&features)));
     }
 }

@@ -18,24 +18,37 @@ use numbers::Numbers;
 use sheets::Sheet;
 use std::path::PathBuf;
 use std::process::ExitCode;
+use stored::Family;
 
-/// How a family comes about: its seed, how many features are asked about, and what is stated.
+/// What a family is asked: statements with so many features, or paths of at least so many.
+enum Asked {
+    Statements(usize),
+    Paths(usize),
+}
+
+/// How a family comes about: its seed, what is asked, and what is stated.
 struct Recipe {
     seed: u64,
-    features: usize,
+    asked: Asked,
     state: fn(&mut Numbers, &mut Sheet),
 }
 
 /// In the order of the families.
 const RECIPES: [Recipe; 8] = [
-    Recipe { seed: 1101, features: 3, state: families::sparse_few },
-    Recipe { seed: 1202, features: 200, state: families::sparse_many },
-    Recipe { seed: 1303, features: 4, state: families::dense },
-    Recipe { seed: 1404, features: 2, state: families::total_order },
-    Recipe { seed: 1505, features: 1, state: families::reversed_chain },
-    Recipe { seed: 1606, features: 8, state: families::one_cycle },
-    Recipe { seed: 1707, features: 1, state: families::two_cycles },
-    Recipe { seed: 1808, features: 8, state: families::order_selections },
+    Recipe { seed: 1101, asked: Asked::Statements(3), state: families::sparse_few },
+    Recipe { seed: 1202, asked: Asked::Statements(200), state: families::sparse_many },
+    Recipe { seed: 1303, asked: Asked::Statements(4), state: families::dense },
+    Recipe { seed: 1404, asked: Asked::Statements(2), state: families::total_order },
+    Recipe { seed: 1505, asked: Asked::Statements(1), state: families::reversed_chain },
+    Recipe { seed: 1606, asked: Asked::Statements(8), state: families::one_cycle },
+    Recipe { seed: 1707, asked: Asked::Statements(1), state: families::two_cycles },
+    Recipe { seed: 1808, asked: Asked::Statements(8), state: families::order_selections },
+];
+
+/// In the order of the families that are asked for paths; by their seeds they state what two of the others do.
+const PATH_RECIPES: [Recipe; 2] = [
+    Recipe { seed: 1808, asked: Asked::Paths(1), state: families::order_selections },
+    Recipe { seed: 1606, asked: Asked::Paths(8), state: families::one_cycle },
 ];
 
 const ORDINARY_SEED: u64 = 1909;
@@ -68,7 +81,10 @@ fn sheet_of(recipe: &Recipe, n: usize) -> Sheet {
     (recipe.state)(&mut numbers, &mut sheet);
     let (_, table) = checked(&sheet);
     families::state_labels(&mut numbers, &mut sheet, &table);
-    families::ask(&mut numbers, &mut sheet, recipe.features);
+    match recipe.asked {
+        Asked::Statements(features) => families::ask(&mut numbers, &mut sheet, features),
+        Asked::Paths(shortest) => families::ask_paths(&mut numbers, &mut sheet, &table, shortest),
+    }
     assert!(is_consistent(&sheet), "seed {}, n = {n}: the sheet is refused or clashes", recipe.seed);
     assert!(different_labels(&sheet) > 1, "seed {}, n = {n}: fewer than two labels", recipe.seed);
     sheet
@@ -83,13 +99,18 @@ fn ordinary_sheets() -> Vec<Vec<u8>> {
     (0..ORDINARY_SHEETS).map(one).collect()
 }
 
+fn file(family: &Family, recipe: &Recipe, n: usize) -> (PathBuf, Vec<u8>) {
+    (stored::path_of(family, n), sheet_of(recipe, n).bytes())
+}
+
 /// All files with their bytes.
 fn files() -> Vec<(PathBuf, Vec<u8>)> {
     let mut all = Vec::new();
     for (family, recipe) in stored::FAMILIES.iter().zip(&RECIPES) {
-        for n in stored::SIZES {
-            all.push((stored::path_of(family, n), sheet_of(recipe, n).bytes()));
-        }
+        all.extend(stored::SIZES.map(|n| file(family, recipe, n)));
+    }
+    for (family, recipe) in stored::PATH_FAMILIES.iter().zip(&PATH_RECIPES) {
+        all.extend(stored::PATH_SIZES.map(|n| file(family, recipe, n)));
     }
     all.push((stored::ordinary_path(), stored::together(&ordinary_sheets())));
     all

@@ -19,7 +19,7 @@ mod calls;
 #[allow(dead_code)]
 mod sheets;
 
-use solvers::{Buffers, Solver, SOLVERS};
+use solvers::{Buffers, SOLVERS};
 use std::process::ExitCode;
 use stored::Job;
 use timing::{least_times, Run};
@@ -46,10 +46,11 @@ fn write_times() -> Result<(), String> {
     let jobs = stored::jobs();
     jobs.iter().try_for_each(agree)?;
     for job in &jobs {
-        let untried: Vec<Vec<u8>> = job.sheets.iter().map(|sheet| reading::with_one_label(sheet)).collect();
+        let with_less = if job.asks_paths { reading::without_questions } else { reading::with_one_label };
+        let less: Vec<Vec<u8>> = job.sheets.iter().map(|sheet| with_less(sheet)).collect();
         let [a, b, c] = SOLVERS.map(|solver| Run::new(solver, &job.sheets));
-        let [d, e] = [Solver::Engine, Solver::Second].map(|solver| Run::new(solver, &untried));
-        let times = least_times([a, b, c, d, e]);
+        let [d, e, f] = SOLVERS.map(|solver| Run::new(solver, &less));
+        let times = least_times([a, b, c, d, e, f]);
         println!("{} {} {}", job.file, job.n, times.map(|time| format!("{time:.0}")).join(" "));
     }
     Ok(())

@@ -1,6 +1,6 @@
-//! Stored sheets, read again: with one label for all that have one, and as facts for the rivals.
+//! Stored sheets, read again: with one label for all that have one, without questions, and as facts for the rivals.
 
-use crate::sheets::{Item, Sheet};
+use crate::sheets::{Item, Path, Sheet};
 use std::fmt::Write;
 
 /// The fields of an accepted sheet, one after another.
@@ -15,6 +15,11 @@ impl Fields<'_> {
         self.byte() * 256 + self.byte()
     }
 
+    fn path(&mut self) -> Path {
+        let features: Vec<u16> = (0..self.byte()).map(|_| self.word() as u16).collect();
+        Path::of(&features)
+    }
+
     fn item(&mut self) -> Item {
         let map = self.byte();
         let mut item = Item { subject: self.byte(), ..Item::default() };
@@ -22,6 +27,7 @@ impl Fields<'_> {
         item.partner = (map & 2 != 0).then(|| self.byte());
         item.selection = (map & 4 != 0).then(|| (self.word() as u16, self.byte()));
         item.label = (map & 8 != 0).then(|| self.word() as u16);
+        item.path = (map & 16 != 0).then(|| self.path());
         item
     }
 }
@@ -43,6 +49,13 @@ pub fn with_one_label(bytes: &[u8]) -> Vec<u8> {
     for record in &mut sheet.records {
         record.label = record.label.map(|_| 0);
     }
+    sheet.bytes()
+}
+
+/// The same sheet, asked nothing.
+pub fn without_questions(bytes: &[u8]) -> Vec<u8> {
+    let mut sheet = read(bytes);
+    sheet.questions.clear();
     sheet.bytes()
 }
 

@@ -160,7 +160,7 @@ fn cells(rival: &Rival, job: &Job, engine: f64) -> Result<String, String> {
 }
 
 fn row(job: &Job, times: &Times, rivals: &[Rival]) -> Result<String, String> {
-    let [all, _, _, untried, _] = *times;
+    let [all, _, _, untried, ..] = *times;
     let mut row = format!("{:<26} {:>4} {:>11.3} {:>11.3}", job.name, job.n, all / 1e6, untried / 1e6);
     for rival in rivals {
         row = row + " " + &cells(rival, job, untried)?;
@@ -179,7 +179,7 @@ pub fn print(file: &str) -> Result<(), String> {
     }
     let named: String = rivals.iter().map(|rival| format!(" {:>10} {:>9}", rival.name, "times")).collect();
     println!("{:<26} {:>4} {:>11} {:>11}{named}", "family, times in ms", "n", "engine", "no trials");
-    for job in stored::jobs().iter().filter(|job| job.file != stored::ORDINARY) {
+    for job in stored::jobs().iter().filter(|job| !job.asks_paths && job.file != stored::ORDINARY) {
         println!("{}", row(job, &times[&(job.file.to_string(), job.n)], &rivals)?);
     }
     Ok(())

@@ -19,9 +19,19 @@ pub const FAMILIES: [Family; 8] = [
     Family { name: "order, 1,024 selections", file: "order-selections" },
 ];
 
+/// The families that are asked for paths.
+pub const PATH_FAMILIES: [Family; 2] = [
+    Family { name: "paths, 1,024 selections", file: "paths-selections" },
+    Family { name: "paths, one cycle", file: "paths-one-cycle" },
+];
+
 /// How many variables the sheets of a family have.
 pub const SIZES: [usize; 4] = [16, 32, 64, 128];
+pub const PATH_SIZES: [usize; 2] = [32, 128];
 pub const LARGEST: usize = 128;
+
+/// How many questions each of them is asked.
+pub const QUESTIONS: usize = 1_024;
 
 /// The file name of the ordinary sheets, and how many variables each has.
 pub const ORDINARY: &str = "ordinary";
@@ -32,6 +42,7 @@ pub struct Job {
     pub name: &'static str,
     pub file: &'static str,
     pub n: usize,
+    pub asks_paths: bool,
     pub sheets: Vec<Vec<u8>>,
 }
 
@@ -64,16 +75,20 @@ fn read(path: PathBuf) -> Vec<u8> {
     std::fs::read(&path).unwrap_or_else(|e| panic!("{}: {e}", path.display()))
 }
 
+fn job(family: &Family, n: usize, asks_paths: bool) -> Job {
+    Job { name: family.name, file: family.file, n, asks_paths, sheets: vec![read(path_of(family, n))] }
+}
+
 /// All that is stored, the ordinary sheets last.
 pub fn jobs() -> Vec<Job> {
     let mut all = Vec::new();
     for family in &FAMILIES {
-        for n in SIZES {
-            let sheets = vec![read(path_of(family, n))];
-            all.push(Job { name: family.name, file: family.file, n, sheets });
-        }
+        all.extend(SIZES.map(|n| job(family, n, false)));
+    }
+    for family in &PATH_FAMILIES {
+        all.extend(PATH_SIZES.map(|n| job(family, n, true)));
     }
     let sheets = apart(&read(ordinary_path()));
-    all.push(Job { name: ORDINARY, file: ORDINARY, n: ORDINARY_SIZE, sheets });
+    all.push(Job { name: ORDINARY, file: ORDINARY, n: ORDINARY_SIZE, asks_paths: false, sheets });
     all
 }

@@ -2,11 +2,13 @@
 
 use crate::reading;
 use crate::solvers::{Buffers, Solver};
-use crate::stored::{self, Job, FAMILIES, LARGEST, ORDINARY, ORDINARY_SIZE, SIZES};
+use crate::stored::{self, Family, Job};
+use crate::stored::{FAMILIES, LARGEST, ORDINARY, ORDINARY_SIZE, PATH_FAMILIES, PATH_SIZES, QUESTIONS, SIZES};
 use std::collections::HashMap;
 
-/// Nanoseconds of one check by the engine, in C and by the second solver; without trials by the engine and the second.
-pub type Times = [f64; 5];
+/// Nanoseconds of one check by the engine, in C and by the second solver; then of one with less to do: without trials,
+/// or where paths are asked for, without questions.
+pub type Times = [f64; 6];
 
 /// By file name and number of variables.
 pub type AllTimes = HashMap<(String, usize), Times>;
@@ -18,7 +20,7 @@ pub fn read_times(file: &str) -> Result<AllTimes, String> {
     for line in text.lines() {
         let words: Vec<&str> = line.split(' ').collect();
         let n = words[1].parse().map_err(|_| format!("{file}: {line}"))?;
-        let least: &mut Times = all.entry((words[0].to_string(), n)).or_insert([f64::INFINITY; 5]);
+        let least: &mut Times = all.entry((words[0].to_string(), n)).or_insert([f64::INFINITY; 6]);
         for (time, word) in least.iter_mut().zip(&words[2..]) {
             *time = time.min(word.parse().map_err(|_| format!("{file}: {line}"))?);
         }
@@ -63,20 +65,42 @@ fn print_told(jobs: &[Job]) {
     }
 }
 
+/// The head of a table of the three solvers' times.
+fn print_head(rows: &str, unit: &str) {
+    let times = ["engine", "C", "second"].map(|solver| format!(" {:>11}", format!("{solver}, {unit}")));
+    println!("{rows:<26} {:>4}{} {:>9} {:>13}", "n", times.concat(), "engine/C", "engine/second");
+}
+
 fn print_times(times: &AllTimes) {
-    println!(
-        "{:<26} {:>4} {:>11} {:>11} {:>11} {:>9} {:>13}",
-        "family", "n", "engine, us", "C, us", "second, us", "engine/C", "engine/second"
-    );
-    for family in &FAMILIES {
-        for n in SIZES {
-            let [engine, reference, second, ..] = times[&(family.file.to_string(), n)].map(|time| time / 1e3);
-            let (by_reference, by_second) = (ratio(engine, reference), ratio(engine, second));
-            println!(
-                "{:<26} {n:>4} {engine:>11.1} {reference:>11.1} {second:>11.1} {by_reference:>9.2} {by_second:>13.2}",
-                family.name
-            );
+    print_head("family", "us");
+    for (families, sizes) in [(&FAMILIES[..], &SIZES[..]), (&PATH_FAMILIES, &PATH_SIZES)] {
+        for (family, n) in rows(families, sizes) {
+            let [engine, reference, second, ..] = times[&(family.file.to_string(), n)];
+            print_three(family, n, [engine, reference, second].map(|time| time / 1e3));
         }
+    }
+}
+
+/// Each family at each size.
+fn rows<'a>(families: &'a [Family], sizes: &'a [usize]) -> impl Iterator<Item = (&'a Family, usize)> {
+    families.iter().flat_map(|family| sizes.iter().map(move |&n| (family, n)))
+}
+
+/// A row of the three solvers' times and what the engine's are by the others'.
+fn print_three(family: &Family, n: usize, [engine, reference, second]: [f64; 3]) {
+    let (by_reference, by_second) = (ratio(engine, reference), ratio(engine, second));
+    println!(
+        "{:<26} {n:>4} {engine:>11.1} {reference:>11.1} {second:>11.1} {by_reference:>9.2} {by_second:>13.2}",
+        family.name
+    );
+}
+
+/// Nanoseconds of one question: what the check takes beyond that without questions, by their number.
+fn print_paths(times: &AllTimes) {
+    print_head("a question for a path", "ns");
+    for (family, n) in rows(&PATH_FAMILIES, &PATH_SIZES) {
+        let [a, b, c, less_a, less_b, less_c] = times[&(family.file.to_string(), n)];
+        print_three(family, n, [a - less_a, b - less_b, c - less_c].map(|time| time / QUESTIONS as f64));
     }
 }
 
@@ -85,7 +109,7 @@ fn print_untried(times: &AllTimes) {
     let n = LARGEST;
     println!("{:<26} {:>4} {:>11} {:>11} {:>13}", "without trials", "n", "engine, us", "second, us", "engine/second");
     for family in &FAMILIES {
-        let [.., engine, second] = times[&(family.file.to_string(), n)].map(|time| time / 1e3);
+        let [.., engine, _, second] = times[&(family.file.to_string(), n)].map(|time| time / 1e3);
         println!("{:<26} {n:>4} {engine:>11.1} {second:>11.1} {:>13.2}", family.name, ratio(engine, second));
     }
 }
@@ -122,6 +146,8 @@ pub fn print(file: &str) -> Result<(), String> {
     print_times(&times);
     println!();
     print_untried(&times);
+    println!();
+    print_paths(&times);
     println!();
     print_growth(&times);
     println!();

@@ -1,6 +1,6 @@
 // Calls the check as a C program does, on sheets with a known outcome and with buffers of many
 // lengths, and compares the outcome and every byte that was lent; then asks which tests may be left
-// out, and which labels all trees have.
+// out, and which labels all trees have, at their roots and at paths.
 #define _DEFAULT_SOURCE
 #include "desk.h"
 #include "dolvreki.h"
@@ -13,8 +13,9 @@
 #include <sys/mman.h>
 #include <unistd.h>
 
-// Bytes behind what a call needs, in the longest buffers; and the longest part that is ever lent.
-enum { SPARE = 7, LONGEST_PART = 128 * 128 + SPARE };
+// Bytes behind what a call needs, in the longest buffers; and the longest part that is ever lent: a
+// sheet, as a table has no more than 128 * 128 bytes.
+enum { SPARE = 7, LONGEST_PART = DOLVREKI_LONGEST_SHEET + SPARE };
 
 enum { SHEET, FACTS, WORK, REPLIES, PARTS };
 
@@ -152,6 +153,7 @@ void report(const struct sheet *sheet)
         parts[WORK].length, parts[REPLIES].length);
 }
 
+// Compares a number that has no label.
 static void compare_outcome(const struct sheet *sheet, const struct outcome *outcome,
     uint64_t found)
 {
@@ -234,6 +236,12 @@ static uint64_t call_label(uint32_t variable)
     return root_label(lent(SHEET), parts[SHEET].length, variable);
 }
 
+static uint64_t call_path(uint32_t question)
+{
+    return check_path(lent(SHEET), parts[SHEET].length, lent(FACTS), parts[FACTS].length,
+        lent(WORK), parts[WORK].length, lent(REPLIES), parts[REPLIES].length, question);
+}
+
 // Makes a call: whether it comes back.
 static bool comes_back(lending_call *call, uint32_t number, uint64_t *found)
 {
@@ -277,15 +285,47 @@ static bool make_call(const struct sheet *sheet, lending_call *call, uint32_t nu
     return true;
 }
 
-// One call with the lengths that are set.
-static void check_call(const struct sheet *sheet)
+// Makes a call that is lent all parts, with the lengths that are set: whether it comes back, and
+// then the label. What else it returns is compared.
+static bool ask_lent(const struct sheet *sheet, lending_call *call, uint32_t number,
+    uint64_t *label)
 {
     struct outcome outcome = expected_outcome(sheet);
     uint64_t found = 0;
     fill_rooms(sheet);
     expect_bytes(sheet, &outcome);
-    if (make_call(sheet, call_check, 0, &found))
-        compare_outcome(sheet, &outcome, found);
+    if (!make_call(sheet, call, number, &found))
+        return false;
+    // with all bits set that no outcome is made of
+    *label = dolvreki_label(found | UINT64_MAX << 57);
+    compare_outcome(sheet, &outcome, found - (*label << 40));
+    return true;
+}
+
+static void compare_label(const struct sheet *sheet, const char *call, uint64_t expected,
+    uint64_t found)
+{
+    if (found == expected)
+        return;
+    report(sheet);
+    printf("%s, label: expected %ju, found %ju\n", call, (uintmax_t)expected, (uintmax_t)found);
+}
+
+// The label at the path of question 0, with the lengths that are set.
+static uint64_t expected_first(const struct sheet *sheet)
+{
+    struct outcome outcome = expected_outcome(sheet);
+    return outcome.kind == DOLVREKI_CONSISTENT ? path_labels.expected(sheet, 0) : 0;
+}
+
+// One call of check_sheet with the lengths that are set, and one of check_path about question 0.
+static void check_call(const struct sheet *sheet)
+{
+    uint64_t label = 0;
+    if (ask_lent(sheet, call_check, 0, &label))
+        compare_label(sheet, "check_sheet", 0, label);
+    if (ask_lent(sheet, call_path, 0, &label))
+        compare_label(sheet, "check_path", expected_first(sheet), label);
 }
 
 // Makes a call that is lent the sheet alone.
@@ -307,6 +347,15 @@ bool ask_drop(const struct sheet *sheet, uint32_t question, bool none, uint64_t 
 bool ask_label(const struct sheet *sheet, uint32_t variable, bool none, uint64_t *found)
 {
     return ask_alone(sheet, call_label, variable, none, found);
+}
+
+bool ask_path(const struct sheet *sheet, uint32_t question, bool none, uint64_t *found)
+{
+    parts[SHEET].length = sheet->bytes.length;
+    parts[FACTS].length = parts[WORK].length = sheet->facts.length;
+    parts[REPLIES].length = sheet->questions;
+    null_for_none = none;
+    return ask_lent(sheet, call_path, question, found);
 }
 
 // The call, and where a part has no bytes the same with null pointers.
@@ -365,6 +414,12 @@ static bool one_sided(const struct asking *asking)
     return asking->given == 0 || asking->given == asking->compared;
 }
 
+static void tell_labels(const struct asking *asking)
+{
+    printf("%zu of %s compared, %zu of them with a label, ", asking->compared, asking->name,
+        asking->given);
+}
+
 int main(void)
 {
     make_rooms();
@@ -373,9 +428,12 @@ int main(void)
     check_sheets(check_lengths);
     check_sheets(check_drops);
     check_sheets(check_labels);
+    check_sheets(check_paths);
     printf("desk: %zu calls, %zu of may_drop compared, %zu of them true, ", calls, drops.compared,
         drops.given);
-    printf("%zu of root_label compared, %zu of them with a label, %zu differences\n",
-        root_labels.compared, root_labels.given, differences);
-    return differences != 0 || one_sided(&drops) || one_sided(&root_labels);
+    tell_labels(&root_labels);
+    tell_labels(&path_labels);
+    printf("%zu differences\n", differences);
+    return differences != 0 || one_sided(&drops) || one_sided(&root_labels)
+        || one_sided(&path_labels);
 }

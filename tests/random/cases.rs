@@ -4,6 +4,7 @@ use crate::damage::{self, Damage};
 use crate::families;
 use crate::lent::Lengths;
 use crate::numbers::Numbers;
+use crate::path_families;
 use crate::sheets::Sheet;
 
 /// What is known of a sheet: it is whole, damaged at a place, or nothing.
@@ -64,7 +65,14 @@ pub fn cases(family: &str, numbers: &mut Numbers) -> Vec<Case> {
         "dense" => families::dense,
         "ordinary" => families::ordinary,
         "large" => families::large,
+        "selections-asked" => families::selections_asked,
         "longest" => families::longest,
+        "path-shared" => path_families::shared,
+        "path-cycle" => path_families::cycle,
+        "path-below" => path_families::below,
+        "path-absent" => path_families::absent,
+        "path-label" => path_families::label,
+        "path-ordinary" => path_families::ordinary,
         _ => return damaged_cases(family, numbers),
     };
     let sheet = valid(numbers);

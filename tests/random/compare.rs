@@ -5,6 +5,7 @@ use crate::cases::{lengths, Case, Known};
 use crate::labels;
 use crate::lent::{Lengths, Lent};
 use crate::numbers::Numbers;
+use crate::paths;
 use crate::tally::Tally;
 use std::io::{Read, Write};
 use std::process::{Command, Stdio};
@@ -22,9 +23,9 @@ fn compare_call(case: &Case, lengths: Lengths, numbers: &mut Numbers, tally: &mu
     if let Some(what) = engine.differs_from(&second) {
         return Err(format!("{told}: {what}, by the engine and by the second solver"));
     }
-    tally.outcome(outcome);
+    tally.outcome(outcome, case.bytes.len());
     match (outcome & 255, &case.known) {
-        (0, Known::Whole(whole)) => tally.reply(&whole.questions, engine.replies()),
+        (0, Known::Whole(whole)) => tally.reply(&whole.questions, engine.replies())?,
         (2, Known::Whole(_)) if outcome >> 8 & 255 < 8 => return Err("a sheet that is whole is refused".to_string()),
         (2, Known::Damaged(damage)) => tally.refused_at(damage, outcome),
         _ => {}
@@ -65,5 +66,6 @@ pub fn compare(program: &str, case: &Case, numbers: &mut Numbers, tally: &mut Ta
         compare_call(case, lengths, numbers, tally)?;
     }
     labels::compare(case, numbers, tally)?;
+    paths::compare(case, numbers, tally)?;
     compare_run(program, case, tally)
 }

@@ -2,7 +2,10 @@
 
 use crate::families;
 use crate::numbers::Numbers;
-use crate::sheets::{Place, Sheet};
+use crate::sheets::{Path, Place, Sheet};
+
+/// Bytes of the longest sheet that can be accepted.
+pub const LONGEST: usize = 28_678;
 
 /// Where a sheet was damaged: what stands there, and the offset that is told where it is refused for it.
 #[derive(Clone, Copy)]
@@ -18,12 +21,15 @@ pub struct Damaged {
 
 /// A sheet with a field of every kind, and with what a small one has besides.
 pub fn base(numbers: &mut Numbers) -> Sheet {
-    use crate::sheets::Said::{Compatible, Labelled, Ordered, Selected};
+    use crate::sheets::Said::{Compatible, Labelled, Ordered, Reached, Selected};
     let mut sheet = families::small(numbers);
     let last = sheet.n - 1;
     for said in [Ordered(last, 0), Compatible(last, 0), Selected(last, 258, 0), Labelled(259, last)] {
         sheet.state_together(said);
         sheet.ask(said);
+    }
+    for features in [&[258][..], &[0, 65_535], &[1, 2, 3, 258, 0, 1, 2, 65_535]] {
+        sheet.ask(Reached(last, Path::of(features)));
     }
     sheet
 }
@@ -61,11 +67,14 @@ fn wrong_values(place: Place, byte: u8, n: usize) -> Vec<Vec<u8>> {
         Place::HeaderMap => bytes(&[0, byte & 6, byte | 8, byte | 16, byte | 32, byte | 64, byte | 128, 255]),
         Place::VariableCount => bytes(&[0, 128, 129, 255]),
         Place::RecordCount | Place::QuestionCount => words(&[0, 1, 1_024, 1_025, 1_280, 2_048, 65_535]),
-        Place::RecordMap => bytes(&[0, 16, 32, 64, 128, byte | 16, byte | 128, 255]),
-        Place::QuestionMap => bytes(&[0, 3, 5, 6, 9, 10, 12, 15, 16, 32, 64, 128, byte | 16, byte | 128]),
-        Place::RecordFeature | Place::RecordLabel | Place::QuestionFeature | Place::QuestionLabel => {
-            words(&[0, 65_535])
+        Place::RecordMap => bytes(&[0, 16, 17, 31, 32, 48, 64, 128, byte | 16, byte | 128, 255]),
+        Place::QuestionMap => {
+            let several = [3, 5, 6, 9, 10, 12, 15, 17, 18, 20, 24, 31, 48, 80, 144, byte | 16, byte | 128];
+            bytes(&[&[0, 16, 32, 64, 128][..], &several].concat())
         }
+        Place::PathCount => bytes(&[0, 1, 2, 3, 4, 5, 6, 7, 8, 9, 10, 16, 128, 255]),
+        Place::RecordFeature | Place::QuestionFeature | Place::PathFeature => words(&[0, 65_535]),
+        Place::RecordLabel | Place::QuestionLabel => words(&[0, 65_535]),
         _ => bytes(&[n as u8, n as u8 + 1, 128, 255]),
     }
 }
@@ -87,7 +96,7 @@ pub fn changed_bytes(numbers: &mut Numbers, sheet: &Sheet) -> Vec<Damaged> {
 /// Bytes behind the end, up to more than any sheet has.
 pub fn trailing(numbers: &mut Numbers, sheet: &Sheet) -> Vec<Damaged> {
     let mut all = Vec::new();
-    for more in [1, 2, 3, 9, 14_342, 20_000] {
+    for more in [1, 2, 3, 9, LONGEST, 40_000] {
         let mut bytes = sheet.bytes();
         let damage = Damage { place: Place::Behind, offset: bytes.len() };
         bytes.extend((0..more).map(|_| numbers.byte()));
@@ -100,7 +109,11 @@ pub fn trailing(numbers: &mut Numbers, sheet: &Sheet) -> Vec<Damaged> {
 pub fn noise(numbers: &mut Numbers) -> Vec<u8> {
     let mut bytes = vec![numbers.pick(&[1, 3, 5, 7, 7, 7, 0, 9]), numbers.between(1, 4) as u8, 0, 2, 0, 2];
     let length = numbers.between(0, 30);
-    bytes.extend((0..length).map(|_| if numbers.once_in(8) { numbers.byte() } else { numbers.below(10) as u8 }));
+    bytes.extend((0..length).map(|_| match numbers.below(8) {
+        0 => numbers.byte(),
+        1 => 16,
+        _ => numbers.below(10) as u8,
+    }));
     bytes.truncate(numbers.between(0, 36));
     bytes
 }

@@ -1,7 +1,8 @@
 //! Families of accepted sheets.
 
 use crate::numbers::Numbers;
-use crate::sheets::{Said, Sheet};
+use crate::sheets::{Path, Said, Sheet, LONGEST_PATH};
+use crate::ways::{self, Ways};
 
 /// The features and labels that a sheet uses, and one of each that it does not.
 struct Palette {
@@ -59,11 +60,22 @@ fn ask_anything(numbers: &mut Numbers, sheet: &mut Sheet, palette: &Palette, cou
     let known = Palette { features: palette.features.clone(), labels: palette.labels.clone() };
     let wider =
         Palette { features: [&palette.features[..], &[777]].concat(), labels: [&palette.labels[..], &[778]].concat() };
+    let ways = Ways::of(sheet);
     for _ in 0..count {
         let palette = if numbers.once_in(3) { &wider } else { &known };
-        let said = anything(numbers, sheet.n, palette, [1, 1, 1, 1]);
+        let said = if numbers.once_in(5) {
+            ways.any(numbers, &palette.features)
+        } else {
+            anything(numbers, sheet.n, palette, [1, 1, 1, 1])
+        };
         sheet.ask(said);
     }
+}
+
+/// Questions of every kind about these features.
+pub fn ask_of_features(numbers: &mut Numbers, sheet: &mut Sheet, features: &[u16], count: usize) {
+    let palette = Palette { features: features.to_vec(), labels: vec![5, 6] };
+    ask_anything(numbers, sheet, &palette, count);
 }
 
 /// Few variables, few of everything, so that every rule meets every other.
@@ -173,6 +185,7 @@ fn ask_of_paths(numbers: &mut Numbers, paths: &mut Paths, palette: &Palette) {
             paths.sheet.ask(said);
         }
     }
+    ways::ask(numbers, &mut paths.sheet, &palette.features, 2);
 }
 
 /// Two paths, linked or not, with what else comes to stand beside them.
@@ -288,7 +301,7 @@ pub fn label_below(numbers: &mut Numbers) -> Sheet {
         let back = [Said::Selected(2 * depth, f, 0), Said::Selected(2 * depth + 1, f, 1)];
         back.into_iter().for_each(|said| sheet.state(said));
     }
-    sheet.records = shuffled(numbers, sheet.records.len()).into_iter().map(|k| sheet.records[k].clone()).collect();
+    shuffle_records(numbers, &mut sheet);
     let questions = numbers.between(0, 8);
     ask_anything(numbers, &mut sheet, &palette, questions);
     sheet
@@ -339,6 +352,11 @@ fn shuffled(numbers: &mut Numbers, bound: usize) -> Vec<usize> {
         list.swap(k, numbers.below(k + 1));
     }
     list
+}
+
+/// Brings the records in an order by chance.
+pub fn shuffle_records(numbers: &mut Numbers, sheet: &mut Sheet) {
+    sheet.records = shuffled(numbers, sheet.records.len()).into_iter().map(|k| sheet.records[k].clone()).collect();
 }
 
 /// Chains of n variables by ≤ or by selection, labels near their ends.
@@ -410,8 +428,8 @@ pub fn large(numbers: &mut Numbers) -> Sheet {
     sheet
 }
 
-/// The longest sheet there is: 1,024 records of four statements each and 1,024 selections asked.
-pub fn longest(numbers: &mut Numbers) -> Sheet {
+/// As many records as there may be, of four statements each.
+fn full_records(numbers: &mut Numbers) -> Sheet {
     let mut sheet = Sheet::over(128);
     for k in 0..1_024 {
         let i = k % 128;
@@ -424,8 +442,30 @@ pub fn longest(numbers: &mut Numbers) -> Sheet {
             sheet.state_together(said);
         }
     }
+    sheet
+}
+
+/// As many records and selections asked as there may be.
+pub fn selections_asked(numbers: &mut Numbers) -> Sheet {
+    let mut sheet = full_records(numbers);
     for k in 0..1_024 {
         sheet.ask(Said::Selected(numbers.below(128), (k / 2) as u16, numbers.below(128)));
+    }
+    sheet
+}
+
+/// The longest sheet there is: as many records as there may be, and as many of the longest paths.
+pub fn longest(numbers: &mut Numbers) -> Sheet {
+    let mut sheet = full_records(numbers);
+    let ways = Ways::of(&sheet);
+    for k in 0..1_024 {
+        let start = numbers.below(128);
+        let path = if k % 8 == 0 {
+            Path::of(&[k as u16; LONGEST_PATH])
+        } else {
+            ways.path(numbers, start, LONGEST_PATH, &[1])
+        };
+        sheet.ask(Said::Reached(start, path));
     }
     sheet
 }

@@ -45,7 +45,7 @@ impl Lent {
     }
 
     /// Lends the parts to a check.
-    pub fn lend(&mut self, check: fn(&[u8], &mut [u8], &mut [u8], &mut [u8]) -> u64) -> u64 {
+    pub fn lend(&mut self, check: impl Fn(&[u8], &mut [u8], &mut [u8], &mut [u8]) -> u64) -> u64 {
         let [sheet, facts, work, replies] = self.starts();
         let Lengths { facts: m, work: w, replies: q } = self.lengths;
         let (front, rest) = self.bytes.split_at_mut(facts);

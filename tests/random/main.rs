@@ -1,9 +1,9 @@
 //! Holds the engine against the second solver on sheets from stored seeds.
 //!
 //! `random compare SEEDS PROGRAM`: each sheet goes through the checking program, whose output has to be what the second
-//! solver prints, and through the calls from C: the outcome, every byte of the memory around the call, and the roots'
-//! labels have to be the same as the second solver's. `random clashes SEEDS FAMILY` counts the clashes of one family by
-//! both.
+//! solver prints, and through the calls from C: the outcome, every byte of the memory around the call, and the labels
+//! at roots and at paths have to be the same as the second solver's. `random clashes SEEDS FAMILY` counts the clashes
+//! of one family by both.
 
 mod calls;
 mod cases;
@@ -15,9 +15,12 @@ mod lent;
 mod numbers;
 #[path = "../../bench/ordinary.rs"]
 mod ordinary;
+mod path_families;
+mod paths;
 mod seeds;
 mod sheets;
 mod tally;
+mod ways;
 
 use lent::Lent;
 use numbers::Numbers;
@@ -67,16 +70,20 @@ fn report(lines: &[Line], tallies: &[Tally]) -> bool {
     let mut all = Tally::default();
     let mut missing = Vec::new();
     println!(
-        "{:>20} {:>8} {:>8} {:>8} {:>10} {:>8} {:>8}",
-        "family", "sheets", "refused", "clash", "consistent", "never", "unstated"
+        "{:>20} {:>8} {:>8} {:>8} {:>10} {:>8} {:>8} {:>8}",
+        "family", "sheets", "refused", "clash", "consistent", "never", "unstated", "at paths"
     );
     for (line, tally) in lines.iter().zip(tallies) {
         let (refused, never) = (tally.refused.iter().sum::<u64>(), tally.never());
-        let Tally { sheets, clashed, consistent, labels: [_, _, unstated], .. } = tally;
-        println!("{:>20} {sheets:>8} {refused:>8} {clashed:>8} {consistent:>10} {never:>8} {unstated:>8}", line.family);
+        let Tally { sheets, clashed, consistent, labels: [_, _, unstated], paths: [told, ..], .. } = tally;
+        println!(
+            "{:>20} {sheets:>8} {refused:>8} {clashed:>8} {consistent:>10} {never:>8} {unstated:>8} {told:>8}",
+            line.family
+        );
         let for_clash = line.family.starts_with("clash-by") && *clashed == 0;
         let for_trial = line.family.contains("-trial") && never == 0;
-        if for_clash || for_trial || line.family == "label-below" && *unstated == 0 {
+        let for_path = line.family.starts_with("path-") && !tally.tells_of_paths();
+        if for_clash || for_trial || for_path || line.family == "label-below" && *unstated == 0 {
             missing.push(format!("what {} is for", line.family));
         }
         all.add(tally);
@@ -87,8 +94,9 @@ fn report(lines: &[Line], tallies: &[Tally]) -> bool {
             missing.push(name);
         }
     }
-    let Tally { sheets, runs, calls, labels: [asked, told, unstated], .. } = all;
+    let Tally { sheets, runs, calls, labels: [asked, told, unstated], paths, .. } = all;
     let labels = format!("{asked} labels asked, {told} told, {unstated} not stated there");
+    let labels = format!("{labels}, {} asked at paths, {} told", paths.iter().sum::<u64>(), paths[0]);
     println!("{sheets} sheets, {runs} runs of the program, {calls} calls, {labels}, 0 differences");
     if !missing.is_empty() {
         println!("not seen at all: {}", missing.join(", "));

@@ -1,12 +1,23 @@
 //! Sheets under construction, and where their fields stand.
 
-/// One statement about a subject, or one question.
+/// The most features that a path has.
+pub const LONGEST_PATH: usize = 8;
+
+/// A list of up to so many features.
+#[derive(Clone, Copy)]
+pub struct Path {
+    places: [u16; LONGEST_PATH],
+    length: usize,
+}
+
+/// One statement about a subject, or one question; a path is only asked.
 #[derive(Clone, Copy)]
 pub enum Said {
     Ordered(usize, usize),
     Compatible(usize, usize),
     Selected(usize, u16, usize),
     Labelled(u16, usize),
+    Reached(usize, Path),
 }
 
 /// A record or a question: a map, a subject, and the fields by rising bit.
@@ -17,6 +28,7 @@ pub struct Item {
     pub partner: Option<usize>,
     pub selection: Option<(u16, usize)>,
     pub label: Option<u16>,
+    pub path: Option<Path>,
 }
 
 /// What a field is, as damage and the tally name it.
@@ -40,6 +52,8 @@ pub enum Place {
     QuestionFeature,
     QuestionChild,
     QuestionLabel,
+    PathCount,
+    PathFeature,
     Behind,
 }
 
@@ -59,6 +73,18 @@ pub struct Sheet {
     pub leave_out_zeros: bool,
 }
 
+impl Path {
+    pub fn of(features: &[u16]) -> Path {
+        let mut places = [0; LONGEST_PATH];
+        places[..features.len()].copy_from_slice(features);
+        Path { places, length: features.len() }
+    }
+
+    pub fn features(&self) -> &[u16] {
+        &self.places[..self.length]
+    }
+}
+
 impl Item {
     pub fn of(said: Said) -> Item {
         let mut item = Item { subject: subject_of(said), ..Item::default() };
@@ -74,6 +100,7 @@ impl Item {
                 Said::Compatible(..) => self.partner.is_none(),
                 Said::Selected(..) => self.selection.is_none(),
                 Said::Labelled(..) => self.label.is_none(),
+                Said::Reached(..) => self.path.is_none(),
             }
     }
 
@@ -83,6 +110,7 @@ impl Item {
             Said::Compatible(_, j) => self.partner = Some(j),
             Said::Selected(_, f, j) => self.selection = Some((f, j)),
             Said::Labelled(a, _) => self.label = Some(a),
+            Said::Reached(_, path) => self.path = Some(path),
         }
     }
 
@@ -91,12 +119,14 @@ impl Item {
             + 2 * u8::from(self.partner.is_some())
             + 4 * u8::from(self.selection.is_some())
             + 8 * u8::from(self.label.is_some())
+            + 16 * u8::from(self.path.is_some())
     }
 }
 
 fn subject_of(said: Said) -> usize {
     match said {
-        Said::Ordered(i, _) | Said::Compatible(i, _) | Said::Selected(i, _, _) | Said::Labelled(_, i) => i,
+        Said::Ordered(i, _) | Said::Compatible(i, _) | Said::Selected(i, _, _) => i,
+        Said::Labelled(_, i) | Said::Reached(i, _) => i,
     }
 }
 
@@ -202,6 +232,10 @@ impl Writer {
         }
         if let Some(a) = item.label {
             self.word(places[6], a);
+        }
+        if let Some(path) = &item.path {
+            self.byte(Place::PathCount, path.length as u8);
+            path.features().iter().for_each(|&f| self.word(Place::PathFeature, f));
         }
     }
 }

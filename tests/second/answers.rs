@@ -1,6 +1,7 @@
-// What the closed facts say of a sheet: its clash, or the labels of its roots and the replies to its questions.
+// What the closed facts say of a sheet: its clash, the labels at its roots and paths, the replies to its questions.
 
 use crate::closure::Facts;
+use crate::paths::leads;
 use crate::rows::{holds, least, Grid, EMPTY};
 use crate::selections::Selections;
 use crate::sheet::{Question, Sheet};
@@ -24,6 +25,16 @@ pub fn label(i: usize, sheet: &Sheet, facts: &Facts) -> Option<u16> {
     sheet.labels.among(facts.down[i])
 }
 
+// The label at the path of a question under every assignment meeting a consistent sheet, if it is about a path.
+pub fn path_label(question: &Question, sheet: &Sheet, facts: &Facts, selections: &Selections) -> Option<u16> {
+    let Question::Reaches(i, path) = question else {
+        return None;
+    };
+    let mut labels = sheet.labels.each();
+    let found = labels.find(|&(_, bearers)| leads(*i, path, bearers, facts, selections));
+    found.map(|(a, _)| a)
+}
+
 // Whether the facts of a consistent sheet support what is asked.
 fn supported(question: &Question, sheet: &Sheet, facts: &Facts, selections: &Selections) -> bool {
     match *question {
@@ -31,6 +42,7 @@ fn supported(question: &Question, sheet: &Sheet, facts: &Facts, selections: &Sel
         Question::Mates(i, j) => holds(facts.mates[i], j),
         Question::Selects(selection) => facts.supports(selection, selections),
         Question::Labelled(i, a) => facts.down[i] & sheet.labels.bearers(a) != 0,
+        Question::Reaches(i, ref path) => leads(i, path, !0, facts, selections),
     }
 }
 
@@ -45,6 +57,7 @@ pub fn reply(sheet: &Sheet, facts: &Facts, rivals: &Grid, selections: &mut Selec
         }
         let never = match *question {
             Question::Labelled(i, a) => facts.mates[i] & sheet.labels.against(a) != 0,
+            Question::Reaches(..) => false,
             _ if harmless => false,
             _ => trials
                 .get_or_insert_with(|| Trials::new(facts, rivals, selections))

@@ -298,7 +298,7 @@ impl Facts {
             Question::Order(i, j) => self.due_up.add(i, bit(j) & !self.up[i]),
             Question::Mates(i, j) => self.due_mates.add(i, bit(j) & !self.mates[i]),
             Question::Selects(selection) => self.pose_selection(selection, selections),
-            Question::Labelled(..) => {}
+            Question::Labelled(..) | Question::Reaches(..) => {}
         }
     }
 

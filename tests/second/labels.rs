@@ -50,6 +50,11 @@ impl Labels {
         self.names.find(a).map_or(0, |number| self.bearers[number])
     }
 
+    // Each label that is stated first for some variable, and the variables for which it is.
+    pub fn each(&self) -> impl Iterator<Item = (u16, Row)> + '_ {
+        self.names.names().iter().copied().zip(self.bearers.iter().copied())
+    }
+
     // The variables with a stated label other than a.
     pub fn against(&self, a: u16) -> Row {
         (self.labelled & !self.bearers(a)) | self.mixed

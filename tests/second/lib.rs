@@ -1,7 +1,7 @@
 //! A second solver for ordering constraints over feature trees.
 //!
 //! It reads a sheet, derives its facts under `<=` and `~`, tells a clash or answers the questions of the sheet, and
-//! tells the labels that the roots have under every assignment.
+//! tells the labels that roots, and the nodes at paths, have under every assignment.
 //! It keeps each relation as rows of bits and inserts whole rows of pairs at a time.
 
 mod answers;
@@ -9,6 +9,7 @@ mod closure;
 mod forbidden;
 mod labels;
 mod numbering;
+mod paths;
 mod rows;
 mod selections;
 mod sheet;
@@ -19,7 +20,7 @@ use std::fmt::Write;
 use closure::Facts;
 use rows::{Grid, Row};
 use selections::Selections;
-use sheet::Sheet;
+use sheet::{Question, Sheet};
 
 // Outcome kinds.
 const CONSISTENT: u64 = 0;
@@ -29,6 +30,14 @@ const REFUSED: u64 = 2;
 // Table bytes: the value for a pair under <= and for a pair under ~.
 const BELOW: u64 = 1;
 const COMPATIBLE: u64 = 2;
+
+// The lowest bit of a path's label above the outcome.
+const PATH_LABEL: u32 = 40;
+
+// A label plus 1, or 0 for none.
+fn one_more(label: Option<u16>) -> u64 {
+    label.map_or(0, |a| u64::from(a) + 1)
+}
 
 // The outcome as one number.
 fn packed(kind: u64, first: u64, second: u64) -> u64 {
@@ -88,6 +97,11 @@ impl Derived {
     fn clash(&self) -> Option<(usize, usize)> {
         answers::clash(&self.facts, &self.rivals)
     }
+
+    // The label at the path of a question, where there is no clash.
+    fn path_label(&self, question: &Question) -> Option<u16> {
+        answers::path_label(question, &self.sheet, &self.facts, &self.selections)
+    }
 }
 
 // Tell a clash or reply, for a sheet and buffers that are not refused.
@@ -103,20 +117,47 @@ fn judge(derived: &mut Derived, facts: &mut [u8], work: &mut [u8], replies: &mut
     packed(CONSISTENT, order, mates)
 }
 
-// Check a sheet with lent tables and a lent reply buffer; gives the packed outcome.
-pub fn check(sheet: &[u8], facts: &mut [u8], work: &mut [u8], replies: &mut [u8]) -> u64 {
+// Derive what follows from a sheet, if neither it nor the lent buffers are refused; else gives the packed outcome.
+fn admit(sheet: &[u8], facts: &[u8], work: &[u8], replies: &[u8]) -> Result<Derived, u64> {
     let sheet = match sheet::read(sheet) {
         Ok(sheet) => sheet,
-        Err(refusal) => return packed(REFUSED, refusal.number.into(), refusal.offset as u64),
+        Err(refusal) => return Err(packed(REFUSED, refusal.number.into(), refusal.offset as u64)),
     };
     let size = sheet.count * sheet.count;
     if facts.len() < size || work.len() < size {
-        return packed(REFUSED, 8, 0);
+        return Err(packed(REFUSED, 8, 0));
     }
     if replies.len() < sheet.questions.len() {
-        return packed(REFUSED, 9, 0);
+        return Err(packed(REFUSED, 9, 0));
     }
-    judge(&mut Derived::of(sheet), facts, work, replies)
+    Ok(Derived::of(sheet))
+}
+
+// Check a sheet with lent tables and a lent reply buffer; gives the packed outcome.
+pub fn check(sheet: &[u8], facts: &mut [u8], work: &mut [u8], replies: &mut [u8]) -> u64 {
+    match admit(sheet, facts, work, replies) {
+        Ok(mut derived) => judge(&mut derived, facts, work, replies),
+        Err(refusal) => refusal,
+    }
+}
+
+// Check a sheet likewise; above the outcome stands the label at the path of a question, plus 1, or 0 for none.
+pub fn check_path(sheet: &[u8], facts: &mut [u8], work: &mut [u8], replies: &mut [u8], question: u32) -> u64 {
+    match admit(sheet, facts, work, replies) {
+        Ok(mut derived) => {
+            let outcome = judge(&mut derived, facts, work, replies);
+            outcome + (told_at(&derived, question as usize) << PATH_LABEL)
+        }
+        Err(refusal) => refusal,
+    }
+}
+
+// The label at the path of a question, plus 1; 0 where there is none, for other questions, and on a clash.
+fn told_at(derived: &Derived, question: usize) -> u64 {
+    match (derived.clash(), derived.sheet.questions.get(question)) {
+        (None, Some(question)) => one_more(derived.path_label(question)),
+        _ => 0,
+    }
 }
 
 // The label of a variable's root under every assignment meeting the sheet, plus 1; 0 where there is none.
@@ -131,7 +172,7 @@ pub fn root_label(sheet: &[u8], variable: u32) -> u64 {
 // The label of a root, plus 1; 0 where there is none, and for a sheet that clashes.
 fn told(derived: &Derived, i: usize) -> u64 {
     match derived.clash() {
-        None => answers::label(i, &derived.sheet, &derived.facts).map_or(0, |a| u64::from(a) + 1),
+        None => one_more(answers::label(i, &derived.sheet, &derived.facts)),
         Some(_) => 0,
     }
 }

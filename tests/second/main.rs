@@ -3,7 +3,7 @@
 use std::io::{self, Read, Write};
 
 // The most bytes read: one more than the longest sheet has.
-const MOST_READ: u64 = 14_343;
+const MOST_READ: u64 = 28_679;
 
 fn main() -> io::Result<()> {
     let mut sheet = Vec::new();

@@ -27,6 +27,11 @@ impl Numbering {
         at
     }
 
+    // The names by their small numbers.
+    pub fn names(&self) -> &[u16] {
+        &self.names
+    }
+
     // The small number of a name met before.
     pub fn find(&self, name: u16) -> Option<usize> {
         usize::from(self.places[self.place(name)]).checked_sub(1)

@@ -1,4 +1,4 @@
-// Reading a sheet from left to right, with the refusals 1 to 7.
+// Reading a sheet from left to right, with the refusals 1 to 7 and 10.
 
 use crate::labels::Labels;
 use crate::rows::{bit, Grid, EMPTY, MOST};
@@ -7,18 +7,22 @@ use crate::rows::{bit, Grid, EMPTY, MOST};
 const MOST_COUNTED: usize = 1024;
 
 // The length in bytes of the longest lawful sheet.
-pub const LONGEST: usize = 14_342;
+pub const LONGEST: usize = 28_678;
+
+// The most features that a path has.
+const LONGEST_PATH: usize = 8;
 
 // Header bits.
 const HAS_VARIABLES: u8 = 1;
 const HAS_RECORDS: u8 = 2;
 const HAS_QUESTIONS: u8 = 4;
 
-// Record and question bits.
+// Record and question bits; a path is for questions alone.
 const ORDER: u8 = 1;
 const MATES: u8 = 2;
 const SELECTS: u8 = 4;
 const LABELLED: u8 = 8;
+const PATH: u8 = 16;
 
 // Why a sheet is refused, and where.
 #[derive(Clone, Copy, Debug, PartialEq)]
@@ -35,6 +39,20 @@ pub struct Selection {
     pub child: usize,
 }
 
+// A list of at least one feature.
+#[derive(Clone, Copy)]
+pub struct Path {
+    places: [u16; LONGEST_PATH],
+    length: usize,
+}
+
+impl Path {
+    // The features from first to last.
+    pub fn features(&self) -> &[u16] {
+        &self.places[..self.length]
+    }
+}
+
 // What one question asks.
 #[derive(Clone, Copy)]
 pub enum Question {
@@ -42,6 +60,7 @@ pub enum Question {
     Mates(usize, usize),
     Selects(Selection),
     Labelled(usize, u16),
+    Reaches(usize, Path),
 }
 
 // A whole sheet: the number of variables, what is stated, what is asked.
@@ -115,8 +134,12 @@ impl Reader<'_> {
     #[inline(always)]
     fn map(&mut self, single: bool) -> Result<u8, Refusal> {
         let map = self.byte()?;
-        let known = map != 0 && map <= (ORDER | MATES | SELECTS | LABELLED);
-        if known && !(single && !map.is_power_of_two()) {
+        let right = if single {
+            map.is_power_of_two() && map <= PATH
+        } else {
+            map != 0 && map <= (ORDER | MATES | SELECTS | LABELLED)
+        };
+        if right {
             Ok(map)
         } else {
             refused(5, self.next - 1)
@@ -132,6 +155,19 @@ impl Reader<'_> {
             feature,
             child: self.variable()?,
         })
+    }
+
+    // The next fields, the number of a path's features and the features.
+    fn path(&mut self) -> Result<Path, Refusal> {
+        let length = usize::from(self.byte()?);
+        if !(1..=LONGEST_PATH).contains(&length) {
+            return refused(10, self.next - 1);
+        }
+        let mut places = [0; LONGEST_PATH];
+        for place in &mut places[..length] {
+            *place = self.word()?;
+        }
+        Ok(Path { places, length })
     }
 
     // The header: the counts of records and questions; the count of variables stays with the reader.
@@ -176,7 +212,8 @@ impl Reader<'_> {
             ORDER => Question::Order(i, self.variable()?),
             MATES => Question::Mates(i, self.variable()?),
             SELECTS => Question::Selects(self.selection(i)?),
-            _ => Question::Labelled(i, self.word()?),
+            LABELLED => Question::Labelled(i, self.word()?),
+            _ => Question::Reaches(i, self.path()?),
         })
     }
 }

@@ -61,7 +61,7 @@ impl<'a> Trials<'a> {
                 Some(child) => self.equal_clashes(child, selection, selections),
                 None => self.selection_clashes(selection, selections),
             },
-            Question::Labelled(..) => false,
+            Question::Labelled(..) | Question::Reaches(..) => false,
         }
     }
 

@@ -1,7 +1,7 @@
 // Sheets of the plain solver as bytes, and back.
 
-use crate::plain::Plain;
-use crate::plain::Said::{self, Below, Labelled, Mates, Selects};
+use crate::plain::Said::{self, Below, Labelled, Mates, Reaches, Selects};
+use crate::plain::{Path, Plain};
 
 // The map bit of a statement.
 fn map_bit(one: &Said) -> u8 {
@@ -10,13 +10,14 @@ fn map_bit(one: &Said) -> u8 {
         Mates(..) => 2,
         Selects(..) => 4,
         Labelled(..) => 8,
+        Reaches(..) => 16,
     }
 }
 
 // The subject of a statement.
 pub fn subject(one: &Said) -> usize {
     match *one {
-        Below(i, _) | Mates(i, _) | Selects(i, _, _) | Labelled(i, _) => i,
+        Below(i, _) | Mates(i, _) | Selects(i, _, _) | Labelled(i, _) | Reaches(i, _) => i,
     }
 }
 
@@ -26,6 +27,10 @@ fn fields(one: &Said, out: &mut Vec<u8>) {
         Below(_, j) | Mates(_, j) => out.push(j as u8),
         Selects(_, f, j) => out.extend([(f >> 8) as u8, f as u8, j as u8]),
         Labelled(_, a) => out.extend([(a >> 8) as u8, a as u8]),
+        Reaches(_, path) => {
+            out.push(path.features().len() as u8);
+            path.features().iter().for_each(|f| out.extend(f.to_be_bytes()));
+        }
     }
 }
 
@@ -89,8 +94,23 @@ fn decode_header(b: &[u8]) -> Result<([usize; 3], usize), Refused> {
     Ok((counts, at))
 }
 
+// Read the count and the features of a path: the path and the offset behind it.
+fn decode_path(b: &[u8], at: usize) -> Result<(Path, usize), Refused> {
+    let count = field(b, at, 1)?;
+    judge(count != 0 && count < 9, 10, at)?;
+    let mut features = Vec::new();
+    for k in 0..count {
+        features.push(field(b, at + 1 + 2 * k, 2)? as u16);
+    }
+    Ok((Path::of(&features), at + 1 + 2 * count))
+}
+
 // Read the statement of one map bit: the statement and the offset behind it.
 fn decode_statement(b: &[u8], n: usize, i: usize, bit: usize, mut at: usize) -> Result<(Said, usize), Refused> {
+    if bit == 4 {
+        let (path, behind) = decode_path(b, at)?;
+        return Ok((Reaches(i, path), behind));
+    }
     let (mut name, mut j) = (0, 0);
     if bit >= 2 {
         name = field(b, at, 2)? as u16;
@@ -109,7 +129,7 @@ fn decode_statement(b: &[u8], n: usize, i: usize, bit: usize, mut at: usize) -> 
 fn decode_record(b: &[u8], n: usize, asked: bool, at: usize) -> Result<(Vec<Said>, usize), Refused> {
     let map = field(b, at, 1)?;
     let bits: Vec<usize> = (0..8).filter(|bit| map >> bit & 1 == 1).collect();
-    let known = !bits.is_empty() && bits.iter().all(|&bit| bit < 4);
+    let known = !bits.is_empty() && bits.iter().all(|&bit| bit < if asked { 5 } else { 4 });
     judge(known && (!asked || bits.len() == 1), 5, at)?;
     let i = field(b, at + 1, 1)?;
     judge(i < n, 6, at + 1)?;

@@ -3,18 +3,54 @@
 use std::collections::BTreeMap;
 
 use crate::bytes::encode;
-use crate::plain::Said::{self, Below, Labelled, Mates, Selects};
+use crate::plain::Said::{self, Below, Labelled, Mates, Reaches, Selects};
 use crate::plain::{self, Expected, Plain};
 
 // The value of every lent byte before a check.
 const MARK: u8 = 0xa5;
 
-// Run a check on marked buffers, a little longer than needed, and compare all that it leaves behind.
+// The number of path questions of one sheet for which the label is asked.
+const MOST_PATHS: usize = 12;
+
+// The two tables and the replies, as they are lent to a check.
+type Buffers<'a> = [&'a mut [u8]; 3];
+
+// Compare all that a check of a sheet gives and leaves behind.
 pub fn compare(sheet: &Plain, bytes: &[u8], expected: &Expected) {
+    let outcome = expected.kind + 256 * expected.first + 16_777_216 * expected.second;
+    compare_call(sheet, expected, outcome, |[facts, work, replies]| {
+        second::check(bytes, facts, work, replies)
+    });
+    assert_eq!(second::printed(bytes), text(sheet, expected), "{sheet:?}");
+    compare_labels(sheet, bytes, &expected.labels);
+    for (question, label) in asked_for_paths(sheet, &expected.path_labels) {
+        let told = label.map_or(0, |a| u64::from(a) + 1);
+        compare_call(
+            sheet,
+            expected,
+            outcome + 1_099_511_627_776 * told,
+            |[facts, work, replies]| second::check_path(bytes, facts, work, replies, question),
+        );
+    }
+}
+
+// Question numbers to ask the label at a path for, and that label: paths, another question, numbers that are none.
+fn asked_for_paths(sheet: &Plain, labels: &[Option<u16>]) -> Vec<(u32, Option<u16>)> {
+    let is_path = |q: &usize| matches!(sheet.questions[*q], Reaches(..));
+    let paths = (0..labels.len()).filter(is_path).take(MOST_PATHS);
+    let other = (0..labels.len()).find(|q| !is_path(q));
+    let mut all: Vec<(u32, Option<u16>)> = paths.chain(other).map(|q| (q as u32, labels[q])).collect();
+    let (count, last) = (labels.len() as u32, all.last().map_or(0, |&(q, _)| q));
+    let beyond = [count, 256 + count, 65_536 + last, u32::MAX];
+    all.extend(beyond.map(|q| (q, None)));
+    all
+}
+
+// Run a check on marked buffers, a little longer than needed, and compare the number and all that it leaves behind.
+fn compare_call(sheet: &Plain, expected: &Expected, wanted: u64, check: impl Fn(Buffers) -> u64) {
     let (size, asked) = (sheet.n * sheet.n, sheet.questions.len());
     let (mut facts, mut work, mut replies) = (vec![MARK; size + 3], vec![MARK; size + 2], vec![MARK; asked + 1]);
-    let outcome = second::check(bytes, &mut facts, &mut work, &mut replies);
-    let wanted = expected.kind + 256 * expected.first + 16_777_216 * expected.second;
+    let outcome = check([&mut facts, &mut work, &mut replies]);
     let mut wanted_facts = expected.table.clone();
     wanted_facts.extend([MARK; 3]);
     let mut wanted_work = vec![if expected.kind == 0 { 0 } else { MARK }; size];
@@ -30,8 +66,6 @@ pub fn compare(sheet: &Plain, bytes: &[u8], expected: &Expected) {
         same,
         "outcome {outcome} wanted {wanted}\nreplies {replies:?}\nwanted {wanted_replies:?}\n{sheet:?}"
     );
-    assert_eq!(second::printed(bytes), text(sheet, expected), "{sheet:?}");
-    compare_labels(sheet, bytes, &expected.labels);
 }
 
 // The label of each root must be told, and none for a number that is no variable.
@@ -114,14 +148,18 @@ fn text(sheet: &Plain, expected: &Expected) -> String {
 // A refusal must be told and must leave every lent byte as it was.
 pub fn compare_refusal(bytes: &[u8], lengths: [usize; 3], number: u64, offset: u64) {
     let [mut facts, mut work, mut replies] = lengths.map(|length| vec![MARK; length]);
+    let wanted = 2 + 256 * number + 16_777_216 * offset;
     let outcome = second::check(bytes, &mut facts, &mut work, &mut replies);
-    assert_eq!(
-        outcome,
-        2 + 256 * number + 16_777_216 * offset,
-        "number {number} at {offset}: {bytes:?}"
-    );
+    assert_eq!(outcome, wanted, "number {number} at {offset}: {bytes:?}");
+    for question in [0, 1, 1_024, u32::MAX] {
+        let outcome = second::check_path(bytes, &mut facts, &mut work, &mut replies, question);
+        assert_eq!(
+            outcome, wanted,
+            "number {number} at {offset}, path {question}: {bytes:?}"
+        );
+    }
     assert!([facts, work, replies].concat().iter().all(|&byte| byte == MARK));
-    if number < 8 {
+    if number != 8 && number != 9 {
         assert_eq!(second::printed(bytes), format!("refused {number} {offset}\n"));
         no_labels(bytes, &[0, 1, 2, 3, 127, 128, 255, 256, 65_536, u32::MAX]);
     }
@@ -150,8 +188,9 @@ impl Tally {
 pub fn note(tally: &mut Tally, sheet: &Plain, expected: &Expected) {
     tally.add(format!("sheets, {}", ["consistent", "clash"][expected.kind as usize]));
     note_labels(tally, sheet, expected);
+    note_path_labels(tally, sheet, expected);
     for (question, &reply) in sheet.questions.iter().zip(&expected.replies) {
-        let form = ["<=", "~", "[f]", "label"][form(question)];
+        let form = ["<=", "~", "[f]", "label", "path"][form(question)];
         tally.add(format!(
             "replies, {form} {}",
             ["always", "never", "open"][reply as usize]
@@ -173,6 +212,17 @@ fn note_labels(tally: &mut Tally, sheet: &Plain, expected: &Expected) {
     }
 }
 
+// Note for each path that is there on a consistent sheet whether it has a label.
+fn note_path_labels(tally: &mut Tally, sheet: &Plain, expected: &Expected) {
+    let asked = sheet.questions.iter().zip(&expected.replies).zip(&expected.path_labels);
+    for ((_, _), label) in asked.filter(|((one, &reply), _)| matches!(one, Reaches(..)) && reply == 0) {
+        tally.add(format!(
+            "labels at paths, {}",
+            if label.is_some() { "told" } else { "none" }
+        ));
+    }
+}
+
 // The number of a question's form.
 fn form(question: &Said) -> usize {
     match question {
@@ -180,6 +230,7 @@ fn form(question: &Said) -> usize {
         Mates(..) => 1,
         Selects(..) => 2,
         Labelled(..) => 3,
+        Reaches(..) => 4,
     }
 }
 

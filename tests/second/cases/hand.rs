@@ -2,11 +2,11 @@
 
 use crate::bytes::{decode, encode};
 use crate::compare::{beyond, compare, compare_asked, compare_refusal, no_labels};
-use crate::plain::Said::{self, Below, Labelled, Mates, Selects};
-use crate::plain::{self, Plain};
+use crate::plain::Said::{self, Below, Labelled, Mates, Reaches, Selects};
+use crate::plain::{self, Path, Plain};
 use crate::trees;
 
-// The statements written as 0<=1, 0~1, 0[7]1 or 5(0), with blanks between.
+// The statements written as 0<=1, 0~1, 0[7]1, 5(0) or, with a path, 0/7/1, with blanks between.
 fn said(text: &str) -> Vec<Said> {
     text.split_whitespace().map(one_said).collect()
 }
@@ -21,12 +21,16 @@ fn one_said(text: &str) -> Said {
         Some('<') => Below(numbers[0], numbers[1]),
         Some('~') => Mates(numbers[0], numbers[1]),
         Some('[') => Selects(numbers[0], numbers[1] as u16, numbers[2]),
+        Some('/') => Reaches(
+            numbers[0],
+            Path::of(&numbers[1..].iter().map(|&f| f as u16).collect::<Vec<_>>()),
+        ),
         _ => Labelled(numbers[1], numbers[0] as u16),
     }
 }
 
 // A sheet with one record for each statement.
-fn sheet(n: usize, records: &str, questions: &str) -> Plain {
+pub fn sheet(n: usize, records: &str, questions: &str) -> Plain {
     Plain {
         n,
         records: said(records).into_iter().map(|one| vec![one]).collect(),
@@ -254,7 +258,7 @@ pub fn refusals_by_place() {
     for map in (0..=255).filter(|map| ![1, 3, 5, 7].contains(map)) {
         compare_refusal(&[map, 0], [0, 0, 0], 2, 0);
     }
-    for map in (0..=255u8).filter(|map| ![1, 2, 4, 8].contains(map)) {
+    for map in (0..=255u8).filter(|map| ![1, 2, 4, 8, 16].contains(map)) {
         compare_refusal(&[5, 1, 0, 1, map, 9], [1, 1, 1], 5, 4);
     }
     let whole = [
@@ -278,18 +282,20 @@ pub fn refusals_by_place() {
     println!("refusals by place: right");
 }
 
-// The longest sheet passes; longer input is refused behind it.
+// The longest sheet passes, and the longest without paths; longer input is refused behind it.
 pub fn longest_sheet() {
     let record = [15, 127, 127, 127, 255, 255, 127, 1, 2];
-    let question = [4, 0, 255, 255, 1];
-    let bytes = [&[7, 128, 4, 0, 4, 0][..], &record.repeat(1024), &question.repeat(1024)].concat();
-    assert_eq!(bytes.len(), 14_342);
-    assert!(second::printed(&bytes).starts_with("consistent 128 128 128\n"));
-    assert_eq!([0, 126, 127].map(|i| second::root_label(&bytes, i)), [0, 0, 259]);
-    for more in [1, 2, 5_000] {
-        let longer = [&bytes[..], &vec![0; more]].concat();
-        assert_eq!(second::printed(&longer), "refused 7 14342\n");
-        no_labels(&longer, &[0, 127, 128]);
+    let path = [&[16, 127, 8][..], &[255, 255].repeat(8)].concat();
+    for (question, length) in [(&[4, 0, 255, 255, 1][..], 14_342), (&path, 28_678)] {
+        let bytes = [&[7, 128, 4, 0, 4, 0][..], &record.repeat(1024), &question.repeat(1024)].concat();
+        assert_eq!(bytes.len(), length);
+        assert!(second::printed(&bytes).starts_with("consistent 128 128 128\n"));
+        assert_eq!([0, 126, 127].map(|i| second::root_label(&bytes, i)), [0, 0, 259]);
+        for more in [1, 2, 5_000, 20_000] {
+            let longer = [&bytes[..], &vec![0; more]].concat();
+            assert_eq!(second::printed(&longer), format!("refused 7 {length}\n"));
+            no_labels(&longer, &[0, 127, 128]);
+        }
     }
     println!("longest sheet: right");
 }

@@ -4,13 +4,17 @@
 mod bytes;
 mod compare;
 mod hand;
+mod path_sheets;
+mod paths;
 mod plain;
 mod sheets;
+mod steps;
 mod trees;
 
 use bytes::{decode, encode};
 use compare::{compare, compare_asked, compare_refusal, note, note_rules, Tally};
-use plain::Said::{self, Below, Labelled, Mates, Selects};
+use path_sheets::{ask_paths, long_cycle_sheet};
+use plain::Said::{self, Below, Labelled, Mates, Reaches, Selects};
 use plain::{Expected, Plain};
 use sheets::{block_sheet, cycle_sheet, grown_sheet, joint_sheet, random_sheet, Dice, Shape};
 
@@ -119,6 +123,46 @@ fn tree_sheets(dice: &mut Dice, rounds: usize) {
     tally.print("small sheets and their least trees");
 }
 
+// Small sheets whose least trees have the paths that are replied to with always, and the labels told there.
+fn path_trees(dice: &mut Dice, rounds: usize) {
+    let mut tally = Tally::default();
+    for round in 0..rounds {
+        let (features, longest, depth) = [(1, 8, 16), (2, 4, 10)][round % 2];
+        let shape = Shape {
+            variables: 5,
+            features,
+            questions: 0,
+            percents: [30, 5, 50, 12],
+            ..SMALL
+        };
+        let mut sheet = random_sheet(dice, &shape);
+        ask_paths(dice, &mut sheet, features + 1, 10);
+        sheet
+            .questions
+            .retain(|one| matches!(one, Reaches(_, path) if path.features().len() <= longest));
+        let expected = plain::solve(&sheet);
+        let wanted: Vec<_> = expected
+            .replies
+            .iter()
+            .copied()
+            .zip(expected.path_labels.clone())
+            .collect();
+        let wanted = (expected.kind == 0).then_some(wanted);
+        assert_eq!(trees::paths(&sheet, depth), wanted, "{sheet:?}");
+        hold(&sheet, &mut tally);
+    }
+    tally.print("paths in small sheets and their least trees");
+}
+
+// Sheets around a cycle that no path goes round, with ways out of it and back.
+fn long_cycle_sheets(dice: &mut Dice, rounds: usize) {
+    let mut tally = Tally::default();
+    for _ in 0..rounds {
+        hold(&long_cycle_sheet(dice), &mut tally);
+    }
+    tally.print("paths around long cycles");
+}
+
 // Sheets around two cycles of selections, whose trials reach far.
 fn cycle_sheets(dice: &mut Dice, rounds: usize) {
     let mut tally = Tally::default();
@@ -193,6 +237,7 @@ fn spread_sheet(small: &Plain, places: &[usize], n: usize) -> Plain {
         Mates(i, j) => Mates(places[i], places[j]),
         Selects(i, f, j) => Selects(places[i], f, places[j]),
         Labelled(i, a) => Labelled(places[i], a),
+        Reaches(i, path) => Reaches(places[i], path),
     };
     let records = small
         .records
@@ -232,6 +277,7 @@ fn spread_expected(small: &Plain, expected: &Expected, places: &[usize], n: usiz
         table,
         labels,
         replies: expected.replies.clone(),
+        path_labels: expected.path_labels.clone(),
     }
 }
 
@@ -251,9 +297,9 @@ fn full_sheets(dice: &mut Dice, rounds: usize) {
     let mut tally = Tally::default();
     for round in 0..rounds {
         let sheet = match round % 3 {
-            0 => block_sheet(dice, 128, 1_000),
+            0 => block_sheet(dice, 128, 800),
             1 => joint_sheet(dice, 128, 1_000),
-            _ => grown_sheet(dice, 128, 9, 400, 1_000),
+            _ => grown_sheet(dice, 128, 9, 400, 800),
         };
         let mut tables = [0; 2].map(|_| vec![0; 128 * 128]);
         let [facts, work] = &mut tables;
@@ -301,7 +347,7 @@ fn damaged_sheets(dice: &mut Dice, rounds: usize) {
         let mut bytes = encode(&random_sheet(dice, &shape));
         for _ in 0..1 + dice.roll(2) {
             let at = dice.roll(bytes.len());
-            bytes[at] = [0, 1, 2, 4, 5, 7, 8, 15, 16, 128, 129, 255][dice.roll(12)];
+            bytes[at] = [0, 1, 2, 4, 5, 7, 8, 9, 15, 16, 16, 17, 48, 128, 129, 255][dice.roll(16)];
         }
         if dice.chance(20) {
             bytes.truncate(dice.roll(bytes.len() + 1));
@@ -336,8 +382,16 @@ fn main() {
     hand::run_only_cases();
     hand::refusals_by_place();
     hand::longest_sheet();
+    paths::paths_by_hand();
+    paths::numbers_by_hand();
+    paths::paths_on_clashes();
+    paths::counts_and_places();
+    paths::maps();
+    paths::cut_sheets();
     small_sheets(&mut dice, 7_000 * scale);
     tree_sheets(&mut dice, 1_000 * scale);
+    path_trees(&mut dice, 600 * scale);
+    long_cycle_sheets(&mut dice, 400 * scale);
     grown_sheets(&mut dice, 2_000 * scale);
     cycle_sheets(&mut dice, 400 * scale);
     block_sheets(&mut dice, 150 * scale);

@@ -1,12 +1,39 @@
 // A deliberately plain solver, rule by rule on booleans, to hold the fast one against.
 
-// One statement or one question.
+use crate::steps::{self, Node};
+
+// A list of up to eight features, with the unused places zero.
+#[derive(Clone, Copy, Debug, PartialEq)]
+pub struct Path {
+    places: [u16; 8],
+    length: usize,
+}
+
+impl Path {
+    // The path of these features.
+    pub fn of(features: &[u16]) -> Path {
+        let mut places = [0; 8];
+        places[..features.len()].copy_from_slice(features);
+        Path {
+            places,
+            length: features.len(),
+        }
+    }
+
+    // The features from first to last.
+    pub fn features(&self) -> &[u16] {
+        &self.places[..self.length]
+    }
+}
+
+// One statement or one question; a path is only asked.
 #[derive(Clone, Copy, Debug, PartialEq)]
 pub enum Said {
     Below(usize, usize),
     Mates(usize, usize),
     Selects(usize, u16, usize),
     Labelled(usize, u16),
+    Reaches(usize, Path),
 }
 
 // A sheet as a number of variables, what each record states, and the questions.
@@ -33,9 +60,10 @@ pub struct Expected {
     pub table: Vec<u8>,
     pub labels: Vec<Option<u16>>,
     pub replies: Vec<u8>,
+    pub path_labels: Vec<Option<u16>>,
 }
 
-use Said::{Below, Labelled, Mates, Selects};
+use Said::{Below, Labelled, Mates, Reaches, Selects};
 
 // Set one entry; tells whether it is new.
 fn set(table: &mut [Vec<bool>], i: usize, j: usize) -> bool {
@@ -139,6 +167,7 @@ fn supported(question: Said, said: &[Said], t: &Tables) -> bool {
             let upper = |&one: &Said| matches!(one, Selects(k, g, m) if g == f && t.below[i][k] && t.below[m][j]);
             said.iter().any(lower) && said.iter().any(upper)
         }
+        Reaches(..) => steps::node(question, said, t).is_some(),
     }
 }
 
@@ -146,6 +175,9 @@ fn supported(question: Said, said: &[Said], t: &Tables) -> bool {
 pub fn reply(n: usize, question: Said, said: &[Said], t: &Tables) -> u8 {
     if supported(question, said, t) {
         return 0;
+    }
+    if let Reaches(..) = question {
+        return 2;
     }
     let mut longer = said.to_vec();
     longer.push(question);
@@ -183,6 +215,14 @@ fn labels(n: usize, said: &[Said], t: &Tables) -> Vec<Option<u16>> {
     labels
 }
 
+// The label that every assignment has at the path of a question, if it is about a path.
+fn path_label(question: Said, said: &[Said], t: &Tables) -> Option<u16> {
+    match steps::node(question, said, t) {
+        Some(Node::Labelled(a)) => Some(a),
+        _ => None,
+    }
+}
+
 // The bytes of the first table.
 pub fn bytes(n: usize, t: &Tables) -> Vec<u8> {
     (0..n * n)
@@ -204,9 +244,11 @@ pub fn solve(sheet: &Plain) -> Expected {
             table,
             labels: vec![None; n],
             replies: Vec::new(),
+            path_labels: vec![None; sheet.questions.len()],
         };
     }
     let replies = sheet.questions.iter().map(|&q| reply(n, q, &said, &t)).collect();
+    let path_labels = sheet.questions.iter().map(|&q| path_label(q, &said, &t)).collect();
     let count = |value: u8| table.iter().filter(|&&byte| byte & value != 0).count() as u64;
     Expected {
         kind: 0,
@@ -214,6 +256,7 @@ pub fn solve(sheet: &Plain) -> Expected {
         second: count(2),
         labels: labels(n, &said, &t),
         replies,
+        path_labels,
         table,
     }
 }

@@ -1,6 +1,7 @@
 // Random sheets of several kinds for the plain solver.
 
 use crate::bytes::encode;
+use crate::path_sheets::ask_paths;
 use crate::plain::Plain;
 use crate::plain::Said::{self, Below, Labelled, Mates, Selects};
 
@@ -44,7 +45,7 @@ fn statement(dice: &mut Dice, shape: &Shape, n: usize, i: usize, form: usize) ->
 }
 
 // A feature or label number that spans both bytes for some.
-fn name(small: usize) -> u16 {
+pub fn name(small: usize) -> u16 {
     [0u16, 1, 256, 65_535, 257, 511, 7, 40_000][small % 8].wrapping_add((small / 8) as u16 * 3)
 }
 
@@ -65,6 +66,8 @@ pub fn random_sheet(dice: &mut Dice, shape: &Shape) -> Plain {
         let (i, form) = (dice.roll(n), dice.roll(4));
         sheet.questions.push(statement(dice, shape, n, i, form));
     }
+    let paths = dice.roll(shape.questions / 2 + 1);
+    ask_paths(dice, &mut sheet, shape.features + 1, paths);
     sheet
 }
 
@@ -93,6 +96,7 @@ pub fn cycle_sheet(dice: &mut Dice, size: usize, extra: usize) -> Plain {
         let (i, form) = (dice.roll(n), [0, 1, 2, 2][dice.roll(4)]);
         sheet.questions.push(statement(dice, &shape, n, i, form));
     }
+    ask_paths(dice, &mut sheet, 3, 3);
     sheet
 }
 
@@ -132,6 +136,7 @@ pub fn grown_sheet(dice: &mut Dice, n: usize, features: usize, tries: usize, ask
         sheet.questions.push(statement(dice, &shape, n, i, form));
         related_questions(dice, &mut sheet);
     }
+    ask_paths(dice, &mut sheet, features, asked / 8);
     sheet
 }
 
@@ -169,6 +174,7 @@ pub fn block_sheet(dice: &mut Dice, n: usize, asked: usize) -> Plain {
         }
     }
     sheet.questions = more.questions;
+    ask_paths(dice, &mut sheet, features, asked / 10);
     sheet
 }
 

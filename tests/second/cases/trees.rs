@@ -1,15 +1,16 @@
-// The least trees that meet a sheet, from the meaning of its statements alone, cut at a depth.
+// The least trees that meet a sheet, from the meaning of its statements alone, cut at a depth: longer than the paths of
+// interest by what has to come up from below for them.
 
 use std::collections::BTreeMap;
 
 use crate::plain::Plain;
-use crate::plain::Said::{self, Below, Labelled, Mates, Selects};
+use crate::plain::Said::{self, Below, Labelled, Mates, Reaches, Selects};
 
-// The depth at which trees are cut: more than small sheets need for what their roots have.
+// The depth at which trees are cut where only their roots count.
 const DEPTH: usize = 8;
 
 // A tree: the paths that are present, each bare or with a label.
-type Tree = BTreeMap<Vec<u16>, Option<u16>>;
+pub type Tree = BTreeMap<Vec<u16>, Option<u16>>;
 
 // The subtree at a feature.
 fn child(tree: &Tree, f: u16) -> Tree {
@@ -20,9 +21,9 @@ fn child(tree: &Tree, f: u16) -> Tree {
 }
 
 // The tree with a feature above its root.
-fn raised(tree: &Tree, f: u16) -> Tree {
+fn raised(tree: &Tree, f: u16, depth: usize) -> Tree {
     tree.iter()
-        .filter(|(path, _)| path.len() < DEPTH)
+        .filter(|(path, _)| path.len() < depth)
         .map(|(path, &label)| ([&[f], &path[..]].concat(), label))
         .collect()
 }
@@ -38,18 +39,18 @@ fn join(tree: &mut Tree, other: &Tree) -> bool {
 }
 
 // Put into the trees what a statement forces there; tells whether that changes one.
-fn force(one: &Said, trees: &mut [Tree]) -> bool {
+fn force(one: &Said, trees: &mut [Tree], depth: usize) -> bool {
     match *one {
         Below(i, j) => {
             let lower = trees[i].clone();
             join(&mut trees[j], &lower)
         }
         Selects(i, f, j) => {
-            let (upper, lower) = (raised(&trees[j], f), child(&trees[i], f));
+            let (upper, lower) = (raised(&trees[j], f, depth), child(&trees[i], f));
             join(&mut trees[i], &upper) | join(&mut trees[j], &lower)
         }
         Labelled(i, a) => join(&mut trees[i], &Tree::from([(Vec::new(), Some(a))])),
-        Mates(..) => false,
+        Mates(..) | Reaches(..) => false,
     }
 }
 
@@ -70,20 +71,44 @@ fn mates(tree: &Tree, other: &Tree) -> bool {
 }
 
 // Whether a statement holds for the trees.
-fn holds(one: &Said, trees: &[Tree]) -> bool {
+fn holds(one: &Said, trees: &[Tree], depth: usize) -> bool {
     match *one {
         Below(i, j) => below(&trees[i], &trees[j]),
         Mates(i, j) => mates(&trees[i], &trees[j]),
-        Selects(i, f, j) => raised(&child(&trees[i], f), f) == raised(&trees[j], f),
+        Selects(i, f, j) => raised(&child(&trees[i], f), f, depth) == raised(&trees[j], f, depth),
         Labelled(i, a) => trees[i][&Vec::new()] == Some(a),
+        Reaches(i, path) => trees[i].contains_key(path.features()),
     }
+}
+
+// The least trees that meet a sheet, or none where two labels meet.
+fn least(sheet: &Plain, depth: usize) -> Option<Vec<Tree>> {
+    let said = sheet.records.concat();
+    let mut trees = vec![Tree::from([(Vec::new(), None)]); sheet.n];
+    while said
+        .iter()
+        .fold(false, |more, one| more | force(one, &mut trees, depth))
+    {}
+    let met = said.iter().all(|one| holds(one, &trees, depth));
+    met.then_some(trees)
 }
 
 // The labels of the roots of the least trees that meet a sheet, or none where two labels meet.
 pub fn roots(sheet: &Plain) -> Option<Vec<Option<u16>>> {
-    let said = sheet.records.concat();
-    let mut trees = vec![Tree::from([(Vec::new(), None)]); sheet.n];
-    while said.iter().fold(false, |more, one| more | force(one, &mut trees)) {}
-    let met = said.iter().all(|one| holds(one, &trees));
-    met.then(|| trees.iter().map(|tree| tree[&Vec::new()]).collect())
+    let trees = least(sheet, DEPTH)?;
+    Some(trees.iter().map(|tree| tree[&Vec::new()]).collect())
+}
+
+// The replies to the path questions of a sheet, and the labels at their paths, in its least trees.
+pub fn paths(sheet: &Plain, depth: usize) -> Option<Vec<(u8, Option<u16>)>> {
+    let trees = least(sheet, depth)?;
+    let asked = sheet.questions.iter().filter_map(|question| match *question {
+        Reaches(i, path) => Some(trees[i].get(path.features())),
+        _ => None,
+    });
+    Some(
+        asked
+            .map(|node| (if node.is_some() { 0 } else { 2 }, node.copied().flatten()))
+            .collect(),
+    )
 }
