@@ -16,7 +16,7 @@ enum { DOLVREKI_CONSISTENT = 0, DOLVREKI_CLASH = 1, DOLVREKI_REFUSED = 2 };
 // What is replied to a question.
 enum { DOLVREKI_ALWAYS = 0, DOLVREKI_NEVER = 1, DOLVREKI_OPEN = 2 };
 
-// Why a call is refused: for a fault of the sheet by 1 to 7, else for a short buffer by 8 or 9.
+// Why a call is refused: for a short buffer by 8 or 9, else for a fault of the sheet.
 enum {
     DOLVREKI_CUT = 1,
     DOLVREKI_HEADER_MAP = 2,
@@ -26,11 +26,12 @@ enum {
     DOLVREKI_VARIABLE_RANGE = 6,
     DOLVREKI_TRAILING = 7,
     DOLVREKI_SHORT_TABLE = 8,
-    DOLVREKI_SHORT_REPLIES = 9
+    DOLVREKI_SHORT_REPLIES = 9,
+    DOLVREKI_PATH_LENGTH = 10
 };
 
 // Bytes of the longest sheet that can be accepted.
-enum { DOLVREKI_LONGEST_SHEET = 14342 };
+enum { DOLVREKI_LONGEST_SHEET = 28678 };
 
 // Checks a sheet over n variables with q questions. The caller lends the sheet, which is only read,
 // two tables of at least n * n bytes each, and a buffer for at least q replies. Whatever the lines
@@ -63,7 +64,16 @@ bool may_drop(const uint8_t *sheet, size_t sheet_length, uint32_t question);
 // derivation, on buffers of its own: some 14,000 bytes of stack more.
 uint64_t root_label(const uint8_t *sheet, size_t sheet_length, uint32_t variable);
 
-// Bits 0 to 7, 8 to 23 and 24 to 39 of an outcome, and no others.
+// Does all that check_sheet does, and tells with the outcome the label at the path that question
+// number `question` asks for: check_sheet's number + 1099511627776 * label. That is 1 + the label
+// that all assignments of trees meeting the sheet have at the path; 0 where no label is common to
+// them, where no path question has that number, and where the outcome is not consistent. Some
+// 13,000 bytes of stack more.
+uint64_t check_path(const uint8_t *sheet, size_t sheet_length, uint8_t *facts, size_t facts_length,
+    uint8_t *work, size_t work_length, uint8_t *replies, size_t replies_length, uint32_t question);
+
+// Bits 0 to 7, 8 to 23, 24 to 39 and 40 to 56 of an outcome, and no others; the last, 0 or 1 + a
+// label, only of one that check_path gives.
 static inline uint64_t dolvreki_kind(uint64_t outcome)
 {
     return outcome & 0xff;
@@ -77,6 +87,11 @@ static inline uint64_t dolvreki_first(uint64_t outcome)
 static inline uint64_t dolvreki_second(uint64_t outcome)
 {
     return outcome >> 24 & 0xffff;
+}
+
+static inline uint64_t dolvreki_label(uint64_t outcome)
+{
+    return outcome >> 40 & 0x1ffff;
 }
 
 #ifdef __cplusplus

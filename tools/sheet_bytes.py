@@ -1,22 +1,26 @@
 """The bytes of a sheet: what it states and asks, how that is laid out, and why a sheet is refused."""
 
-from typing import List, NamedTuple, Optional
+from typing import List, NamedTuple, Optional, Tuple
 
 ORDERING, COMPATIBILITY, SELECTION, LABELLING = 1, 2, 4, 8  # the bits of a record's map
 KINDS = (ORDERING, COMPATIBILITY, SELECTION, LABELLING)
+PATH = 16  # the bit that only a question has
+ASKED = KINDS + (PATH,)
 OTHER = {ORDERING: "target", COMPATIBILITY: "partner", SELECTION: "child"}
 HEADER_MAPS = (1, 3, 5, 7)
-MOST_VARIABLES, MOST_ITEMS, MOST_NUMBER = 128, 1024, 65535
-FAULTS = {1: "Cut", 2: "HeaderMap", 3: "VariableCount", 4: "Count", 5: "ItemMap", 6: "VariableRange", 7: "Trailing"}
+MOST_VARIABLES, MOST_ITEMS, MOST_NUMBER, MOST_FEATURES = 128, 1024, 65535, 8
+FAULTS = {1: "Cut", 2: "HeaderMap", 3: "VariableCount", 4: "Count", 5: "ItemMap", 6: "VariableRange", 7: "Trailing",
+          10: "PathLength"}
 
 
 class Statement(NamedTuple):
-    """i <= j, i ~ j, i[f]j or a(i)."""
+    """i <= j, i ~ j, i[f]j or a(i); or the path i.f.g, which can only be asked."""
 
     kind: int
     subject: int
     number: Optional[int]  # the feature of a selection, the label of a labelling
     other: Optional[int]  # target, partner or child
+    path: Tuple[int, ...] = ()  # the features of a path
 
 
 class Item(NamedTuple):
@@ -76,7 +80,14 @@ def item_bytes(item):
             out += s.number.to_bytes(2, "big")
         if s.other is not None:
             out.append(s.other)
+        if s.path:
+            out += path_bytes(s.path)
     return bytes(out)
+
+
+def path_bytes(path):
+    """How many features a path has, and they themselves."""
+    return bytes([len(path)]) + b"".join(feature.to_bytes(2, "big") for feature in path)
 
 
 def write_sheet(sheet):
@@ -140,7 +151,16 @@ def read_item(reader, n, name, fits, wrong):
             else:
                 other = reader.variable("the %s of %s" % (OTHER[kind], name), n)
             statements.append(Statement(kind, subject, number, other))
+    if bits & PATH:
+        statements.append(Statement(PATH, subject, None, None, read_path(reader, name)))
     return Item(statements, start)
+
+
+def read_path(reader, name):
+    """The features of a path, behind their count."""
+    count = reader.field("the number of features of " + name, 1, 10, lambda v: 1 <= v <= MOST_FEATURES,
+                         "and a path has 1 to %d" % MOST_FEATURES)
+    return tuple(reader.field("feature %d of %s" % (k, name), 2) for k in range(1, count + 1))
 
 
 def read_all(reader, sheet):
@@ -150,8 +170,8 @@ def read_all(reader, sheet):
         sheet.records.append(read_item(reader, sheet.variables, "record %d" % r, lambda v: 1 <= v <= 15,
                                        "and a record has a map of 1 to 15"))
     for q in range(sheet.question_count):
-        sheet.questions.append(read_item(reader, sheet.variables, "question %d" % q, lambda v: v in KINDS,
-                                         "and a question has a map of 1, 2, 4 or 8"))
+        sheet.questions.append(read_item(reader, sheet.variables, "question %d" % q, lambda v: v in ASKED,
+                                         "and a question has a map of 1, 2, 4, 8 or 16"))
     rest = len(reader.data) - reader.offset
     if rest:
         raise Refusal(7, reader.offset, "the sheet ends before this byte; behind its end stand %d" % rest)

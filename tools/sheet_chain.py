@@ -1,4 +1,4 @@
-"""Why an ordering follows: a chain of steps, each stated, or given by F2 of an ordering that was known before."""
+"""Why an ordering or a path follows: a chain of steps, each stated, or given by F2 of an ordering known before."""
 
 from functools import cached_property
 
@@ -76,6 +76,36 @@ class Steps:
             chain.append(lowest(levels.pop() & self.up[chain[-1]]))
         return chain
 
+    def moves(self, variable, feature):
+        """Where a path can go from a variable: by the feature to its children, else down a step; the least first."""
+        yield from ((1, child) for child in members(self.children[variable].get(feature, 0)))
+        yield from ((0, below) for below in members(self.down[variable]))
+
+    def way(self, subject, path):
+        """A shortest way along a path: each place, how many features are behind it and the variable; or none.
+
+        Places are looked at in the order in which they are met: of several ways it is the one whose moves come first.
+        """
+        before, met = {(0, subject): None}, [(0, subject)]
+        for place in met:
+            k, variable = place
+            if k == len(path):
+                return trace(before, place)
+            for passed, reached in self.moves(variable, path[k]):
+                if (k + passed, reached) not in before:
+                    before[k + passed, reached] = place
+                    met.append((k + passed, reached))
+        return []
+
+
+def trace(before, place):
+    """The places up to one, each named with the one before it."""
+    way = []
+    while place is not None:
+        way.append(place)
+        place = before[place]
+    return way[::-1]
+
 
 def labelling(label, variable):
     """The statement of a label."""
@@ -83,7 +113,7 @@ def labelling(label, variable):
 
 
 class Source:
-    """Where the labels of a sheet come from; nothing is derived before one is asked for that is not stated."""
+    """Where the labels and paths of a sheet come from; nothing is derived before it is needed."""
 
     def __init__(self, sheet):
         self.sheet, self.records = sheet, {}  # of each statement the first record that makes it
@@ -103,3 +133,10 @@ class Source:
         n = self.sheet.variables
         starts = sum(1 << k for k in range(n) if labelling(label, k) in self.records)
         return self.steps.chain(starts, variable) if starts and variable < n else []
+
+    def legs(self, subject, path):
+        """Of each feature a selection, and the variables from its subject up to where the path has come; or none."""
+        way = self.steps.way(subject, path)
+        reached = [[variable for passed, variable in way if passed == k] for k in range(len(path) + 1)]
+        return [(Statement(SELECTION, one[-1], feature, two[0]), one[::-1])
+                for feature, one, two in zip(path, reached, reached[1:]) if way]

@@ -1,6 +1,6 @@
-"""What follows from a sheet: facts by F1 to F4, the clash by F5, labels, support, replies, and the printed outcome."""
+"""What follows from a sheet: facts by F1 to F4, the clash by F5, labels, support, paths, replies; what is printed."""
 
-from sheet_bytes import COMPATIBILITY, LABELLING, ORDERING, SELECTION
+from sheet_bytes import COMPATIBILITY, LABELLING, ORDERING, PATH, SELECTION
 
 
 def members(row):
@@ -81,8 +81,21 @@ class Facts:
         """How many facts <= and how many facts ~."""
         return tuple(sum(bin(row).count("1") for row in rows) for rows in (self.le, self.alike))
 
+    def below(self, variables):
+        """All variables that are below one of these."""
+        return {k for k in range(self.n) for i in variables if self.less(k, i)}
+
+    def at_path(self, subject, path):
+        """The variables that a path leads to: from all below the subject, by each feature to all below the children."""
+        reached = self.below({subject})
+        for feature in path:
+            reached = self.below({child for k, child in self.selections.get(feature, ()) if k in reached})
+        return reached
+
     def supports(self, q):
         """Whether a question is supported."""
+        if q.kind == PATH:
+            return bool(self.at_path(q.subject, q.path))
         if q.kind == ORDERING:
             return self.less(q.subject, q.other)
         if q.kind == COMPATIBILITY:
@@ -96,9 +109,11 @@ class Facts:
 
 
 def reply(facts, question):
-    """always, never or open."""
+    """always, never or open; never is not replied of a path."""
     if facts.supports(question):
         return "always"
+    if question.kind == PATH:
+        return "open"
     return "never" if Facts(facts.n, facts.statements + [question]).clash() else "open"
 
 

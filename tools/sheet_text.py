@@ -1,10 +1,11 @@
-"""The text of a sheet: one line a record or a question, in the notation of document 01."""
+"""The text of a sheet: one line a record or a question, in the notation of document 01; a path has points."""
 
 import re
 from typing import NamedTuple
 
-from sheet_bytes import (COMPATIBILITY, HEADER_MAPS, LABELLING, MOST_ITEMS, MOST_NUMBER, MOST_VARIABLES, ORDERING,
-                         SELECTION, Item, Sheet, Statement, count_named, smallest_map, write_sheet)
+from sheet_bytes import (COMPATIBILITY, HEADER_MAPS, LABELLING, MOST_FEATURES, MOST_ITEMS, MOST_NUMBER,
+                         MOST_VARIABLES, ORDERING, PATH, SELECTION, Item, Sheet, Statement, count_named,
+                         smallest_map, write_sheet)
 
 TOKEN = re.compile(r"[0-9]+|<=|[A-Za-z]+|\S")
 SIGNS = {ORDERING: "<=", COMPATIBILITY: "~", SELECTION: "[ ]", LABELLING: "( )"}
@@ -90,16 +91,38 @@ class Draft:
         return value
 
 
-def read_statement(draft, line):
-    """One statement, the column where it starts, and the column of its subject."""
+def read_sign(line, asked):
+    """What follows the first number of a statement; a point only where it is asked."""
+    if line.peek().word == "." and not asked:
+        line.fail(line.peek().column, "a path can only be asked, behind ?")
+    return line.take("<=", "≤", "~", "[", "(", *["."] * asked).word
+
+
+def read_path(line):
+    """The features of a path, from behind its first point on."""
+    path = []
+    while True:
+        token = line.take_number("a feature")
+        if len(path) == MOST_FEATURES:
+            line.fail(token.column, "a path of more than %d features" % MOST_FEATURES)
+        path.append(line.ranged(token, MOST_NUMBER, "a feature"))
+        if line.peek().word != ".":
+            return tuple(path)
+        line.take(".")
+
+
+def read_statement(draft, line, asked=False):
+    """One statement, the column where it starts, and the column of its subject; where it is asked, it may be a path."""
     first = line.take_number("a statement")
-    sign = line.take("<=", "≤", "~", "[", "(").word
+    sign = read_sign(line, asked)
     if sign == "(":
         label = line.ranged(first, MOST_NUMBER, "a label")
         token = line.take_number("a variable")
         line.take(")")
         return Statement(LABELLING, draft.variable(line, token), label, None), first.column, token.column
     subject, feature = draft.variable(line, first), None
+    if sign == ".":
+        return Statement(PATH, subject, None, None, read_path(line)), first.column, first.column
     if sign == "[":
         feature = line.ranged(line.take_number("a feature"), MOST_NUMBER, "a feature")
         line.take("]")
@@ -124,9 +147,9 @@ def read_record(draft, line):
 
 
 def read_question(draft, line):
-    """A question: one statement behind its sign."""
+    """A question: one statement or path behind its sign."""
     line.take("?")
-    statement, _, _ = read_statement(draft, line)
+    statement, _, _ = read_statement(draft, line, True)
     if line.peek().word == ",":
         line.fail(line.peek().column, "a question asks one thing")
     line.take("")
@@ -229,7 +252,9 @@ def decode(data):
 
 
 def statement_text(s):
-    """A statement in the notation of document 01."""
+    """A statement in the notation of document 01, or a path: the variable and the features, with points between."""
+    if s.kind == PATH:
+        return ".".join(str(number) for number in (s.subject,) + s.path)
     if s.kind == LABELLING:
         return "%d(%d)" % (s.number, s.subject)
     if s.kind == SELECTION:

@@ -1,6 +1,6 @@
 """What is told of a sheet: a refusal's place among its bytes, and the program's lines with the text beside them."""
 
-from sheet_bytes import FAULTS, ORDERING, Statement
+from sheet_bytes import FAULTS, ORDERING, PATH, Statement
 from sheet_chain import Source, labelling
 from sheet_text import item_lines, question_text, statement_text
 
@@ -50,7 +50,7 @@ def stated_at(source, statement):
 
 def with_remark(text, remark):
     """A line of the text with the remark that stands beside it."""
-    return "%-18s# %s" % (text, remark) if remark else text
+    return "%-17s # %s" % (text, remark) if remark else text
 
 
 def explain_clash(source, i, j):
@@ -87,8 +87,22 @@ def explain_label(source, variable, label):
     stated = labelling(label, chain[0])
     if len(chain) == 1:
         return with_remark(stated_at(source, stated), source.records[stated].remark)
+    return explain_chain(source, stated, chain)
+
+
+def explain_chain(source, stated, chain):
+    """A statement, and the steps up a chain from its subject."""
     steps = [explain_step(source, Statement(ORDERING, i, None, j)) for i, j in zip(chain, chain[1:])]
     return ", ".join([stated_at(source, stated)] + steps)
+
+
+def explain_question(source, question, reply):
+    """A question; behind a path that is always there what gives it, feature by feature."""
+    (asked,), text = question.statements, question_text(question)
+    legs = source.legs(asked.subject, asked.path) if asked.kind == PATH and reply == "always" else []
+    if legs:
+        text += " by " + ", ".join(explain_chain(source, selection, chain) for selection, chain in legs)
+    return with_remark(text, question.remark)
 
 
 def explain(source, line):
@@ -102,8 +116,7 @@ def explain(source, line):
     if words[0] == "var" and len(numbers) == 2:
         return explain_label(source, *numbers)
     if words[0] == "ask" and numbers and numbers[0] < len(source.sheet.questions):
-        question = source.sheet.questions[numbers[0]]
-        return with_remark(question_text(question), question.remark)
+        return explain_question(source, source.sheet.questions[numbers[0]], words[-1])
     return ""
 
 

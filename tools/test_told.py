@@ -1,4 +1,4 @@
-"""What is told of a label, read again and held against the rules, which are applied here to sets of pairs."""
+"""What is told of a label or a path, read again and held against the rules, which are applied to sets of pairs."""
 
 import re
 
@@ -13,14 +13,21 @@ GIVEN = re.compile("%s by %s%s and %s%s(?: as %s(%s| follows))?" % (
     ORDER, SELECTED, PLACE, SELECTED, PLACE, ORDER, PLACE))
 PLACED = re.compile(r"(\d+ <= \d+|\d+\[\d+\]\d+|\d+\(\d+\)) at (line|offset) (\d+)")
 
+SELECTING = re.compile(SELECTED + PLACE)
+
 REASONS = {"stated for itself": r"^[^,]*$", "through others": r",.*,",
            "F2 from one subject": r" and \S+ at \w+ \d+(,|$)", "F2 from what is stated": r" as \d+ <= \d+ at ",
            "F2 from what follows": r" follows"}
+WAYS = {"a path of one feature": r"^\? \d+\.\d+ by ", "a path of eight": r"^\? \d+(\.\d+){8} by ",
+        "a path along children alone": r"^\? \d+(\.\d+){2,} by (\S+ at \w+ \d+(, |$))+$",
+        "a path along what is stated": r"\] ?\d+ at \w+ \d+, \d+ <= \d+ at ",
+        "a path along what F2 gives": r"\]\d+ at \w+ \d+, \d+ <= \d+ by ",
+        "a path through others": r"\]\d+ at \w+ \d+, \d+ <= [^\[]+, \d+ <= ", "a path that is open": r"^\? [\d.]+$"}
 
 
-def reasons(text):
+def reasons(text, patterns):
     """The kinds of reason that a text has."""
-    return [name for name, pattern in REASONS.items() if re.search(pattern, text)]
+    return [name for name, pattern in patterns.items() if re.search(pattern, text)]
 
 
 def closed(pairs):
@@ -92,3 +99,41 @@ class Order:
         chain = [int(label.group(2))] + [j for _, j in pairs]
         fits = pairs == list(zip(chain, chain[1:]))
         return (int(label.group(1)), chain) if fits else (None, [])
+
+    def moves(self, k, i, path):
+        """Where a path can go from a variable: the move, to a child before what is below, and the place reached."""
+        yield from (((0, c), (k + 1, c)) for j, f, c in self.selections if (j, f) == (i, path[k]))
+        yield from (((1, j), (k, j)) for j, above in self.steps if above == i)
+
+    def way(self, subject, path):
+        """The moves of a shortest way along a path, each the first that will do; or none."""
+        ways, seen = {(0, subject): []}, {(0, subject)}
+        while ways and not any(k == len(path) for k, _ in ways):
+            longer = sorted((way + [move], place) for (k, i), way in ways.items()
+                            for move, place in self.moves(k, i, path) if place not in seen)
+            ways = {place: way for way, place in reversed(longer)}
+            seen |= set(ways)
+        return min((way for (k, _), way in ways.items() if k == len(path)), default=[])
+
+    def told_leg(self, at, feature, parts):
+        """The moves of one feature from a variable on: the orderings down, then the child; or None."""
+        selected, pairs = SELECTING.fullmatch(parts[0]), [self.told_step(step) for step in parts[1:]]
+        if not selected or None in pairs:
+            return None
+        i, f, c = (int(number) for number in selected.groups())
+        chain = [i] + [j for _, j in pairs]
+        fits = pairs == list(zip(chain, chain[1:])) and chain[-1] == at and f == feature
+        return [(1, j) for j in chain[-2::-1]] + [(0, c)] if fits and (i, f, c) in self.selections else None
+
+    def told_way(self, subject, path, text):
+        """The moves of a way that is told; or None where something in it is wrong."""
+        parts, moves, at = text.split(", ") if text else [], [], subject
+        starts = [k for k, part in enumerate(parts) if SELECTING.fullmatch(part)] + [len(parts)]
+        if starts[0] != 0 or len(starts) - 1 not in (0, len(path)) or not set(PLACED.findall(text)) <= self.places:
+            return None
+        for feature, start, end in zip(path, starts, starts[1:]):
+            leg = self.told_leg(at, feature, parts[start:end])
+            if leg is None:
+                return None
+            moves, at = moves + leg, leg[-1][1]
+        return moves
