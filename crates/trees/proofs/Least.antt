@@ -10,7 +10,7 @@ use Rattle.rules.specs.Facts.{Relation, Holds}
 use Rattle.rules.specs.Support.{under_label}
 use Rattle.rules.specs.Stated.{selection, Stated}
 use Rattle.rules.proofs.Supported.{label_by}
-use Rattle.rules.proofs.Lists.{all_one}
+use Rattle.rules.proofs.Lists.{all_one, all_by}
 use Rattle.trees.specs.Assignments.{Satisfies, Assignment, SatisfiesAll}
 use Rattle.trees.specs.Trees.{labelled, Present, Path, IsTree, Below, Compatible, Child, Labelled}
 use Rattle.trees.proofs.Structures.{descends, one_label, through, Laws, compatible_below}
@@ -109,6 +109,9 @@ module _ {n : ℕ} {st : List Statement} {r : Relation} (L : Laws n st r) where
   least_keeps (Statement.Selection i f j) s = keeps_selection s
   least_keeps (Statement.Labelling i a) s =
       label_root L (i.0 ∷ []) (self_together i.0) s (in_one L (L.self Kind.Ordered i.0))
+
+  pub least_meets : SatisfiesAll (least st r) st
+  least_meets = all_by (Satisfies (least st r)) st least_keeps
 
   -- it has only labels that are supported
   pub least_label : (i a : ℕ) → Labelled (least st r i) a → under_label st r i a ≡ true

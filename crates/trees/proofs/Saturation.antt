@@ -10,12 +10,12 @@ use Rattle.rules.specs.Facts.{Relation}
 use Rattle.rules.specs.Stated.{selection}
 use Rattle.rules.specs.Support.{supported}
 use Rattle.rules.proofs.Lists.{all_name_more, all_from}
-use Rattle.trees.specs.Assignments.{Assignment, Falsifies, FalsifiesAll}
-use Rattle.trees.specs.Trees.{Below, Child}
+use Rattle.trees.specs.Assignments.{Assignment, SatisfiesAll, Falsifies, FalsifiesAll}
+use Rattle.trees.specs.Trees.{IsTree, Below, Child}
 use Rattle.trees.proofs.Nodes.{related_self, related_children}
 use Rattle.trees.proofs.Structures.{Laws}
 use Rattle.trees.proofs.Least.{least_keeps, least_label}
-use Rattle.trees.proofs.Extensions.{Extension, further, solution}
+use Rattle.trees.proofs.Extensions.{Ranked, Extension, further, solution, solution_trees, solution_meets}
 use Rattle.trees.proofs.Marks.{old_in}
 use Rattle.trees.proofs.Marked.{marked_laws, marked_extends, marked_extension}
 use Rattle.trees.proofs.Shown.{shown, shows_ordered, shows_compatible}
@@ -66,3 +66,17 @@ refute L qs h u =
       whole = further E (marked_extension E.laws);
       breaks_all = all_breaks E.laws qs (all_name_more E.extends.larger qs h) P.breakable;
     }
+
+module _ {n : ℕ} {st : List Statement} {r : Relation} {qs : List Statement} (R : Refutation n st r qs) where
+  abbrev pub refuting : Assignment
+  refuting = solution R.whole
+
+  -- its trees are trees, it meets the statements, and it is ranked where the structure is
+  pub refuting_trees : (i : ℕ) → IsTree (refuting i)
+  refuting_trees i = solution_trees R.whole i
+
+  pub refuting_meets : SatisfiesAll refuting st
+  refuting_meets = solution_meets R.whole
+
+  pub refuting_ranked : Ranked st r → Ranked R.whole.statements R.whole.facts
+  refuting_ranked K = R.whole.extends.ranked K
