@@ -114,42 +114,75 @@ module _ (queue queue' : List Entry) (x y : ℕ) (pushed : queue' ≡ queue ++ (
   push_still : {i j : ℕ} → Queued queue 0 (length queue) i j → Queued queue' 0 (length queue') i j
   push_still q = wider (omega arith) (omega (arith, push_size)) (carried push_kept q)
 
--- the pairs of one variable, with one variable more
-module _ {n i x : ℕ} {queue : List Entry} (few : n ≤ most_variables) (subject : i < n)
-    (so_far : SubjectQueued n i x queue) (h : x < n) where
-  -- there is room for both
-  pub subject_room : length queue + 1 < queue_room
-  subject_room = omega (arith, so_far.count)
+-- the pairs with i as first variable, as far as each variable below x
+pub record FirstOnes (n i x : ℕ) (queue : List Entry) : Type 0 where
+  pub count : length queue ≡ x
+  pub entries : (k : ℕ) → k < length queue → IsEntry n (entry_at queue k)
+  pub left : (y : ℕ) → y < x → Queued queue 0 (length queue) i y
 
-  module _ (queue₁ queue₂ : List Entry) (pushed₁ : queue₁ ≡ queue ++ (entry i x ∷ []))
-      (pushed₂ : queue₂ ≡ queue₁ ++ (entry x i ∷ [])) where
-    still : {a b : ℕ} → Queued queue 0 (length queue) a b → Queued queue₂ 0 (length queue₂) a b
-    still q = push_still queue₁ queue₂ x i pushed₂ (push_still queue queue₁ i x pushed₁ q)
+-- all of them, and those with i as second variable so far
+pub record SecondOnes (n i x : ℕ) (queue : List Entry) : Type 0 where
+  pub count : length queue ≡ n + x
+  pub entries : (k : ℕ) → k < length queue → IsEntry n (entry_at queue k)
+  pub left : (y : ℕ) → y < n → Queued queue 0 (length queue) i y
+  pub right : (y : ℕ) → y < x → Queued queue 0 (length queue) y i
 
-    new_left : Queued queue₂ 0 (length queue₂) i x
-    new_left = push_still queue₁ queue₂ x i pushed₂ (push_queued queue queue₁ i x pushed₁)
+-- one variable more
+module _ {n i x : ℕ} (few : n ≤ most_variables) (subject : i < n) (h : x < n) {queue : List Entry} where
+  pub first_room : FirstOnes n i x queue → length queue < queue_room
+  first_room so_far = omega (arith, so_far.count)
 
-    new_right : Queued queue₂ 0 (length queue₂) x i
-    new_right = push_queued queue₁ queue₂ x i pushed₂
+  pub second_room : SecondOnes n i x queue → length queue < queue_room
+  second_room so_far = omega (arith, so_far.count)
 
-    pub subject_next : SubjectQueued n i (x + 1) queue₂
-    subject_next =
-        record {
-          count =
-              omega (arith, so_far.count, push_size queue queue₁ i x pushed₁, push_size queue₁ queue₂ x i pushed₂);
-          entries =
-              push_entries queue₁ queue₂ x i pushed₂ h subject
-              (push_entries queue queue₁ i x pushed₁ subject h so_far.entries);
-          left = λ y b. last_or_before y x (omega arith) (λ e. rw e new_left) (λ c. still (so_far.left y c));
-          right = λ y b. last_or_before y x (omega arith) (λ e. rw e new_right) (λ c. still (so_far.right y c));
-        }
+  pub first_next : (queue' : List Entry) → queue' ≡ queue ++ (entry i x ∷ []) → FirstOnes n i x queue
+      → FirstOnes n i (x + 1) queue'
+  first_next queue' pushed so_far =
+      record {
+        count = omega (arith, so_far.count, push_size queue queue' i x pushed);
+        entries = push_entries queue queue' i x pushed subject h so_far.entries;
+        left = λ y b.
+            last_or_before y x (omega arith) (λ e. rw e (push_queued queue queue' i x pushed))
+            (λ c. push_still queue queue' i x pushed (so_far.left y c));
+      }
+
+  pub second_next : (queue' : List Entry) → queue' ≡ queue ++ (entry x i ∷ []) → SecondOnes n i x queue
+      → SecondOnes n i (x + 1) queue'
+  second_next queue' pushed so_far =
+      record {
+        count = omega (arith, so_far.count, push_size queue queue' x i pushed);
+        entries = push_entries queue queue' x i pushed h subject so_far.entries;
+        left = λ y b. push_still queue queue' x i pushed (so_far.left y b);
+        right = λ y b.
+            last_or_before y x (omega arith) (λ e. rw e (push_queued queue queue' x i pushed))
+            (λ c. push_still queue queue' x i pushed (so_far.right y c));
+      }
 
 -- no variable yet
-pub subject_start : (n i : ℕ) {queue : List Entry} → queue ≡ [] → SubjectQueued n i 0 queue
-subject_start n i e =
+pub first_start : (n i : ℕ) {queue : List Entry} → queue ≡ [] → FirstOnes n i 0 queue
+first_start n i e =
     rw e (record {
       count = omega arith;
       entries = λ k h. absurd (omega arith);
       left = λ y h. absurd (omega arith);
-      right = λ y h. absurd (omega arith);
     })
+
+-- from the first ones to the others, and all of them
+module _ {n i x : ℕ} {queue : List Entry} (last : x ≡ n) where
+  pub second_start : FirstOnes n i x queue → SecondOnes n i 0 queue
+  second_start so_far =
+      record {
+        count = omega (arith, so_far.count);
+        entries = so_far.entries;
+        left = λ y h. so_far.left y (omega arith);
+        right = λ y h. absurd (omega arith);
+      }
+
+  pub both_queued : SecondOnes n i x queue → SubjectQueued n i n queue
+  both_queued so_far =
+      record {
+        count = omega (arith, so_far.count);
+        entries = so_far.entries;
+        left = so_far.left;
+        right = λ y h. so_far.right y (omega arith);
+      }

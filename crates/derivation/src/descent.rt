@@ -13,20 +13,20 @@ ghost use Rattle.derivation.specs.Settled.{Starting, Settled};
 use facts::Growth;
 use selections::{Child, Groups};
 use std::ops::Range;
-use table::{Entry, Kinds, NEITHER};
+use table::{Entry, Kinds, NEITHER, Table};
 
 // Whether the child at a place has the same feature, and w is not told yet of the two children.
 #[tactic(auto, unfolding(crate::specs::Descent::is_new, fields::specs::Tests::pick, fields::specs::Tests::same))]
-fn is_new(growth: &Growth, groups: &Groups, w: Kinds, child: Child, at: usize) -> bool
-    requires { Telling growth.now.n growth.now.cells.now groups.now child.variable.0 at }
-    ensures { result ≡ is_new growth.now.n growth.now.cells.now groups.now w.0 child.feature.0 child.variable.0 at }
+fn is_new(table: &Table, groups: &Groups, w: Kinds, child: Child, at: usize) -> bool
+    requires { Telling table.now.n table.now.cells.now groups.now child.variable.0 at }
+    ensures { result ≡ is_new table.now.n table.now.cells.now groups.now w.0 child.feature.0 child.variable.0 at }
 {
     let other = &groups.children[at];
     let i = child.variable.index();
-    other.feature == child.feature && growth.look(i, other.variable.index()).lacks(w)
+    other.feature == child.feature && table.look(i, other.variable.index()).lacks(w)
 }
 
-// The first such place of these.
+// The first such place of these. A table of its own: what the growth lends is read once, and not anew at each place.
 fn seek(
     growth: &Growth,
     groups: &Groups,
@@ -41,8 +41,12 @@ fn seek(
         (FirstNew growth.now.n growth.now.cells.now groups.now w.0 child.feature.0 child.variable.0
         places.start places.end) }
 {
+    let table = Table {
+        cells: growth.cells,
+        n: growth.n,
+    };
     let mut places = places;
-    places.find(|at| is_new(growth, groups, w, child, *at))
+    places.find(|at| is_new(&table, groups, w, child, *at))
 }
 
 // Tells w of a child and each child of v at the same feature. No `for` that tests and inserts: with the insertion in the

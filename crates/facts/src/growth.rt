@@ -19,6 +19,17 @@ pub struct Growth<'a> {
     pub queue: &'a mut Queue,
 }
 
+// The cells of another table, one after another: `copy_from_slice` is C's memmove, which none who links the library has to
+// bring for anything else.
+fn copy_cells(from: &[u8], to: &mut [u8])
+    requires { length from.now ≡ length to.old }
+    ensures { to.new ≡ from.now }
+{
+    for at in 0..to.len() {
+        to[at] = from[at];
+    }
+}
+
 impl Growth<'_> {
     // The cell of i and j.
     pub fn look(&self, i: usize, j: usize) -> Kinds
@@ -44,7 +55,7 @@ impl Growth<'_> {
         requires { length other.now.cells.now ≡ length self.old.cells.now }
         ensures { self.new ≡ with_table self.old other.now.cells.now }
     {
-        self.cells.copy_from_slice(other.cells);
+        copy_cells(other.cells, self.cells);
     }
 
     // Adds what w says to the cell of x and y.

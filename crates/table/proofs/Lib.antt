@@ -2,3 +2,4 @@
 pub mod Saying
 pub mod Stores
 pub mod Entries
+pub mod Bounds
