@@ -47,17 +47,7 @@ module _ (n : ℕ) (t : List ℕ) (groups : Groups) (w f i k : ℕ) where
       (fact_said n t kind i (variable_at groups k) h g
       ∙ has_all kind _ w (shape.cells i (variable_at groups k) h g) small none under.told.told)
 
--- the first place that is new, as it is found
-module _ (n : ℕ) (t : List ℕ) (groups : Groups) (w f i from end : ℕ) where
-  pub first_new : (r : Option ℕ)
-      → MatchOption r (NoneNew n t groups w f i from end)
-      (λ at. (from ≤ at) × (at < end) × (is_new n t groups w f i at ≡ true) × NoneNew n t groups w f i from at)
-      → MatchOption r (NoneNew n t groups w f i from end) (FirstNew n t groups w f i from end)
-  first_new None none = none
-  first_new (Some at) found =
-      record { behind = found.0; ahead = found.1; found = found.2; passed = found.3 }
-
--- and the first row with a child to tell of
+-- the first row with a child to tell of, as it is found
 module _ (n : ℕ) (t : List ℕ) (groups : Groups) (w first last from end : ℕ) where
   pub next_row : (r : Option ℕ)
       → MatchOption r (NoRowNew n t groups w first last from end)
