@@ -7,7 +7,8 @@ use crate::cells::has_fact;
 use rules::Kind;
 use table::Table;
 
-// The facts of the kind in row i. No `filter`: with it a large table took four times as long, a cell at a time.
+// The facts of the kind in row i. No `filter`: with it a check of 128 variables and no record took three times as long, since
+// the compiler then looks at one cell a turn.
 fn count_row(table: &Table, kind: Kind, i: usize) -> usize
     requires { i < table.now.n }
     ensures { RowCount table.now.n table.now.cells.now kind i result }

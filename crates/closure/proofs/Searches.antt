@@ -62,7 +62,7 @@ last_first from items = reverse (entries_from from items)
 abbrev read_at : ℕ → List Entry → ℕ → ℕ
 read_at from items k = length (entries_from from items) - 1 - k
 
--- each has variables below n
+-- each entry that is read so has variables below n
 pub may_search : {n : ℕ} {t : List ℕ} {queue items : List Entry} (from : ℕ) → items ≡ queue → Sought n t queue from
     → (entry : Entry) (k : ℕ) → k < length (last_first from items)
     → entry ≡ get_or (last_first from items) k entry → Searching n t entry

@@ -114,13 +114,13 @@ module _ (queue queue' : List Entry) (x y : ℕ) (pushed : queue' ≡ queue ++ (
   push_still : {i j : ℕ} → Queued queue 0 (length queue) i j → Queued queue' 0 (length queue') i j
   push_still q = wider (omega arith) (omega (arith, push_size)) (carried push_kept q)
 
--- the pairs with i as first variable, as far as each variable below x
+-- the pairs of i and a variable below x, i first
 pub record FirstOnes (n i x : ℕ) (queue : List Entry) : Type 0 where
   pub count : length queue ≡ x
   pub entries : (k : ℕ) → k < length queue → IsEntry n (entry_at queue k)
   pub left : (y : ℕ) → y < x → Queued queue 0 (length queue) i y
 
--- all of them, and those with i as second variable so far
+-- all pairs with i first, and those of a variable below x and i
 pub record SecondOnes (n i x : ℕ) (queue : List Entry) : Type 0 where
   pub count : length queue ≡ n + x
   pub entries : (k : ℕ) → k < length queue → IsEntry n (entry_at queue k)

@@ -19,8 +19,8 @@ pub struct Growth<'a> {
     pub queue: &'a mut Queue,
 }
 
-// The cells of another table, one after another: `copy_from_slice` is C's memmove, which none who links the library has to
-// bring for anything else.
+// The cells of another table, one after another. No `copy_from_slice`: that is C's memmove, which nothing else in the library
+// needs from those who link it.
 fn copy_cells(from: &[u8], to: &mut [u8])
     requires { length from.now ≡ length to.old }
     ensures { to.new ≡ from.now }
