@@ -114,75 +114,56 @@ module _ (queue queue' : List Entry) (x y : ℕ) (pushed : queue' ≡ queue ++ (
   push_still : {i j : ℕ} → Queued queue 0 (length queue) i j → Queued queue' 0 (length queue') i j
   push_still q = wider (omega arith) (omega (arith, push_size)) (carried push_kept q)
 
--- the pairs of i and a variable below x, i first
-pub record FirstOnes (n i x : ℕ) (queue : List Entry) : Type 0 where
-  pub count : length queue ≡ x
+-- the pairs of i and each variable below a are queued, and those of each below b and i
+pub record Ones (n i a b : ℕ) (queue : List Entry) : Type 0 where
+  pub count : length queue ≡ a + b
   pub entries : (k : ℕ) → k < length queue → IsEntry n (entry_at queue k)
-  pub left : (y : ℕ) → y < x → Queued queue 0 (length queue) i y
+  pub left : (y : ℕ) → y < a → Queued queue 0 (length queue) i y
+  pub right : (y : ℕ) → y < b → Queued queue 0 (length queue) y i
 
--- all pairs with i first, and those of a variable below x and i
-pub record SecondOnes (n i x : ℕ) (queue : List Entry) : Type 0 where
-  pub count : length queue ≡ n + x
-  pub entries : (k : ℕ) → k < length queue → IsEntry n (entry_at queue k)
-  pub left : (y : ℕ) → y < n → Queued queue 0 (length queue) i y
-  pub right : (y : ℕ) → y < x → Queued queue 0 (length queue) y i
-
--- one variable more
-module _ {n i x : ℕ} (few : n ≤ most_variables) (subject : i < n) (h : x < n) {queue : List Entry} where
-  pub first_room : FirstOnes n i x queue → length queue < queue_room
-  first_room so_far = omega (arith, so_far.count)
-
-  pub second_room : SecondOnes n i x queue → length queue < queue_room
-  second_room so_far = omega (arith, so_far.count)
-
-  pub first_next : (queue' : List Entry) → queue' ≡ queue ++ (entry i x ∷ []) → FirstOnes n i x queue
-      → FirstOnes n i (x + 1) queue'
-  first_next queue' pushed so_far =
-      record {
-        count = omega (arith, so_far.count, push_size queue queue' i x pushed);
-        entries = push_entries queue queue' i x pushed subject h so_far.entries;
-        left = λ y b.
-            last_or_before y x (omega arith) (λ e. rw e (push_queued queue queue' i x pushed))
-            (λ c. push_still queue queue' i x pushed (so_far.left y c));
-      }
-
-  pub second_next : (queue' : List Entry) → queue' ≡ queue ++ (entry x i ∷ []) → SecondOnes n i x queue
-      → SecondOnes n i (x + 1) queue'
-  second_next queue' pushed so_far =
-      record {
-        count = omega (arith, so_far.count, push_size queue queue' x i pushed);
-        entries = push_entries queue queue' x i pushed h subject so_far.entries;
-        left = λ y b. push_still queue queue' x i pushed (so_far.left y b);
-        right = λ y b.
-            last_or_before y x (omega arith) (λ e. rw e (push_queued queue queue' x i pushed))
-            (λ c. push_still queue queue' x i pushed (so_far.right y c));
-      }
-
--- no variable yet
-pub first_start : (n i : ℕ) {queue : List Entry} → queue ≡ [] → FirstOnes n i 0 queue
-first_start n i e =
+-- none yet
+pub ones_start : (n i : ℕ) {queue : List Entry} → queue ≡ [] → Ones n i 0 0 queue
+ones_start n i e =
     rw e (record {
       count = omega arith;
       entries = λ k h. absurd (omega arith);
       left = λ y h. absurd (omega arith);
+      right = λ y h. absurd (omega arith);
     })
 
--- from the first ones to the others, and all of them
-module _ {n i x : ℕ} {queue : List Entry} (last : x ≡ n) where
-  pub second_start : FirstOnes n i x queue → SecondOnes n i 0 queue
-  second_start so_far =
+-- one more, of either kind
+module _ {n i a b : ℕ} (few : n ≤ most_variables) (subject : i < n) {queue : List Entry} (so_far : Ones n i a b queue) where
+  pub ones_room : a + b < 2 * n → length queue < queue_room
+  ones_room h = omega (arith, so_far.count)
+
+  pub left_next : a < n → (queue' : List Entry) → queue' ≡ queue ++ (entry i a ∷ []) → Ones n i (a + 1) b queue'
+  left_next h queue' pushed =
       record {
-        count = omega (arith, so_far.count);
-        entries = so_far.entries;
-        left = λ y h. so_far.left y (omega arith);
-        right = λ y h. absurd (omega arith);
+        count = omega (arith, so_far.count, push_size queue queue' i a pushed);
+        entries = push_entries queue queue' i a pushed subject h so_far.entries;
+        left = λ y g.
+            last_or_before y a (omega arith) (λ e. rw e (push_queued queue queue' i a pushed))
+            (λ c. push_still queue queue' i a pushed (so_far.left y c));
+        right = λ y g. push_still queue queue' i a pushed (so_far.right y g);
       }
 
-  pub both_queued : SecondOnes n i x queue → SubjectQueued n i n queue
-  both_queued so_far =
+  pub right_next : b < n → (queue' : List Entry) → queue' ≡ queue ++ (entry b i ∷ []) → Ones n i a (b + 1) queue'
+  right_next h queue' pushed =
       record {
-        count = omega (arith, so_far.count);
-        entries = so_far.entries;
-        left = so_far.left;
-        right = λ y h. so_far.right y (omega arith);
+        count = omega (arith, so_far.count, push_size queue queue' b i pushed);
+        entries = push_entries queue queue' b i pushed h subject so_far.entries;
+        left = λ y g. push_still queue queue' b i pushed (so_far.left y g);
+        right = λ y g.
+            last_or_before y b (omega arith) (λ e. rw e (push_queued queue queue' b i pushed))
+            (λ c. push_still queue queue' b i pushed (so_far.right y c));
       }
+
+-- all of them
+pub ones_all : {n i b : ℕ} {queue : List Entry} → b ≡ n → Ones n i n b queue → SubjectQueued n i n queue
+ones_all last all =
+    record {
+      count = omega (arith, all.count, last);
+      entries = all.entries;
+      left = all.left;
+      right = λ y h. all.right y (omega (arith, last));
+    }
